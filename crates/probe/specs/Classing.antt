@@ -1,0 +1,12 @@
+-- What classing asks of its two slices. Assumes nothing.
+use mathlib.Core.List.{List, [], _∷_}
+use Prim.Native.Nat.{ℕ}
+use lib.Dec.{eqb}
+use lib.ListN.{length}
+use Rattle.reading.specs.declared.Symbol.{Symbol}
+use Rattle.refusal.specs.declared.Refusal.the-variants.{LengthMismatch}
+use Rattle.refusal.specs.Verdicts.{Reply, reply, verdict}
+
+-- its one question: are there as many places for symbols as there are bytes?
+abbrev pub asks : List ℕ → List Symbol → Reply
+asks bytes symbols = verdict (reply LengthMismatch (eqb (length bytes) (length symbols)) 0 ∷ [])

@@ -1,0 +1,58 @@
+// Readings: the symbol of a tag, and how many tags of a load have each symbol.
+ghost use mathlib.Core.Path.{_≡_};
+ghost use Rattle.reading.specs.Counting.{countsOf};
+ghost use Rattle.reading.specs.Letters.{symbolText, countsText};
+ghost use Rattle.std.specs.declared.option.Option.the-variants.{Some};
+use std::fmt;
+
+// How many symbols a reading can have: a to h.
+pub const SYMBOLS: usize = 8;
+
+// A reading: 0 to 7 stand for a to h, and a larger number is no reading.
+#[derive(Clone, Copy, PartialEq, Eq, Debug)]
+pub struct Symbol(pub u8);
+
+// How many tags of a load have each symbol, from a to h.
+#[derive(Clone, Copy, PartialEq, Eq, Debug)]
+pub struct Counts(pub [usize; SYMBOLS]);
+
+impl Counts {
+    pub fn of(symbols: &[Symbol]) -> Counts
+        ensures { λ r. ⌜ r .0 ≡ countsOf (now (symbols .entry)) ⌝ }
+    {
+        let mut counts = [0; SYMBOLS];
+        for symbol in symbols {
+            let k = symbol.0 as usize;
+            if k < SYMBOLS {
+                counts[k] += 1;
+            }
+        }
+        Counts(counts)
+    }
+}
+
+// A reading as its letter, any other symbol as its number.
+pub impl fmt::Display for Symbol as SymbolDisplay {
+    ghost shown = { λ s. Some (symbolText s) };
+
+    fn fmt<W: fmt::Write>(&self, f: &mut fmt::Formatter<W>) -> fmt::Result {
+        let number = self.0;
+        if number < 8 {
+            let letter = char::from(b'a' + number);
+            write!(f, "{letter}")
+        } else {
+            write!(f, "{number}")
+        }
+    }
+}
+
+// Each letter with its count, as `a 2 b 0 c 1 ..`.
+pub impl fmt::Display for Counts as CountsDisplay {
+    ghost shown = { λ n. Some (countsText (n .0)) };
+
+    fn fmt<W: fmt::Write>(&self, f: &mut fmt::Formatter<W>) -> fmt::Result {
+        let n = self.0;
+        write!(f, "a {} b {} c {} d {}", n[0], n[1], n[2], n[3])?;
+        write!(f, " e {} f {} g {} h {}", n[4], n[5], n[6], n[7])
+    }
+}
