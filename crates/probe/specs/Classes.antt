@@ -2,23 +2,24 @@
 use mathlib.Core.Bool.{Bool, true, cond, _&&_}
 use mathlib.Core.List.{List, [], _∷_}
 use Prim.Native.Nat.{ℕ, suc}
-use lib.Dec.{eqb, leb}
+use lib.Dec.{eqb}
+use Rattle.std.specs.Text.{within}
 use Rattle.reading.specs.declared.Symbol.{Symbol}
 
--- the number of a byte's symbol: 0 to 39 a, 40 to 79 b, 80 to 99 c, 100 to 119 d, 120 to 159 e, 160 to 199 f, 200 to 254 g, 255 h
+-- the number of a byte's symbol: each line has the first and the last byte of a class; what is left is 255, the class h
 abbrev pub classOf : ℕ → ℕ
-classOf b =
-    cond (leb b 39) 0
-    (cond (leb b 79) 1
-    (cond (leb b 99) 2
-    (cond (leb b 119) 3
-    (cond (leb b 159) 4
-    (cond (leb b 199) 5
-    (cond (leb b 254) 6 7))))))
+classOf byte =
+    cond (within 0 39 byte) 0
+    (cond (within 40 79 byte) 1
+    (cond (within 80 99 byte) 2
+    (cond (within 100 119 byte) 3
+    (cond (within 120 159 byte) 4
+    (cond (within 160 199 byte) 5
+    (cond (within 200 254 byte) 6 7))))))
 
 -- the symbol that a byte is classed as
 abbrev pub symbolOf : ℕ → Symbol
-symbolOf b = record { 0 = classOf b }
+symbolOf byte = record { 0 = classOf byte }
 
 -- a test passes at each entry of a list and its place, counted from i
 abbrev pub every : (ℕ → ℕ → Bool) → ℕ → List ℕ → Bool

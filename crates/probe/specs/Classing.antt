@@ -5,8 +5,8 @@ use lib.Dec.{eqb}
 use lib.ListN.{length}
 use Rattle.reading.specs.declared.Symbol.{Symbol}
 use Rattle.refusal.specs.declared.Refusal.the-variants.{LengthMismatch}
-use Rattle.refusal.specs.Verdicts.{Reply, reply, verdict}
+use Rattle.refusal.specs.Checks.{Check, check}
 
--- its one question: are there as many places for symbols as there are bytes?
-abbrev pub asks : List ℕ → List Symbol → Reply
-asks bytes symbols = verdict (reply LengthMismatch (eqb (length bytes) (length symbols)) 0 ∷ [])
+-- its one check: are there as many places for symbols as there are bytes?
+abbrev pub checks : List ℕ → List Symbol → List Check
+checks bytes symbols = check LengthMismatch (eqb (length bytes) (length symbols)) 0 ∷ []

@@ -1,18 +1,21 @@
-// Readings: the symbol of a tag, and how many tags of a load have each symbol.
+// Readings: what the probe of each tag was classed as, and how many tags of a load have each symbol.
+// A tag is the device on a crate, and a load is a number of tags; the reading of a tag is one of the symbols a to h.
 ghost use mathlib.Core.Path.{_≡_};
-ghost use Rattle.reading.specs.Counting.{countsOf};
+ghost use Prim.Native.Nat.{_+_, _^_, _<_};
+ghost use lib.ListN.{getD};
+ghost use Rattle.reading.specs.Counting.{countsOf, counted};
 ghost use Rattle.reading.specs.Letters.{symbolText, countsText};
 ghost use Rattle.std.specs.declared.option.Option.the-variants.{Some};
 use std::fmt;
 
-// How many symbols a reading can have: a to h.
+// How many symbols a reading can be: a to h.
 pub const SYMBOLS: usize = 8;
 
-// A reading: 0 to 7 stand for a to h, and a larger number is no reading.
+// A symbol by its number: 0 to 7 are the readings a to h, and a larger one is no reading.
 #[derive(Clone, Copy, PartialEq, Eq, Debug)]
 pub struct Symbol(pub u8);
 
-// How many tags of a load have each symbol, from a to h.
+// How many tags have each symbol, from a to h.
 #[derive(Clone, Copy, PartialEq, Eq, Debug)]
 pub struct Counts(pub [usize; SYMBOLS]);
 
@@ -22,12 +25,20 @@ impl Counts {
     {
         let mut counts = [0; SYMBOLS];
         for symbol in symbols {
-            let k = symbol.0 as usize;
-            if k < SYMBOLS {
-                counts[k] += 1;
-            }
+            count(&mut counts, *symbol);
         }
         Counts(counts)
+    }
+}
+
+// Counts one symbol; one that is no reading is not counted.
+fn count(counts: &mut [usize; SYMBOLS], symbol: Symbol)
+    requires { ⌜ getD (now counts) (symbol .0) 0 + 1 < 2 ^ 64 ⌝ }
+    ensures { λ _. ⌜ now (counts .exit) ≡ counted (now (counts .entry)) symbol ⌝ }
+{
+    let k = usize::from(symbol.0);
+    if k < SYMBOLS {
+        counts[k] += 1;
     }
 }
 
@@ -37,7 +48,7 @@ pub impl fmt::Display for Symbol as SymbolDisplay {
 
     fn fmt<W: fmt::Write>(&self, f: &mut fmt::Formatter<W>) -> fmt::Result {
         let number = self.0;
-        if number < 8 {
+        if usize::from(number) < SYMBOLS {
             let letter = char::from(b'a' + number);
             write!(f, "{letter}")
         } else {
@@ -56,3 +67,6 @@ pub impl fmt::Display for Counts as CountsDisplay {
         write!(f, " e {} f {} g {} h {}", n[4], n[5], n[6], n[7])
     }
 }
+
+#[cfg(test)]
+mod tests;

@@ -1,3 +1,3 @@
+pub mod Checks
 pub mod Numbers
 pub mod Texts
-pub mod Verdicts

@@ -1,8 +1,8 @@
 // Refusals: what a call answers where it does not grant what it was asked.
 ghost use mathlib.Core.Path.{_≡_};
+ghost use Rattle.refusal.specs.Checks.{faultAt, check, First-no-decides};
 ghost use Rattle.refusal.specs.Numbers.{numberOf, layerOf};
 ghost use Rattle.refusal.specs.Texts.{nameOf, sentenceOf, faultText};
-ghost use Rattle.refusal.specs.Verdicts.{reply};
 ghost use Rattle.std.specs.declared.option.Option.the-variants.{Some};
 use std::error::Error;
 use std::fmt;
@@ -16,7 +16,7 @@ pub enum Layer {
     Load,
 }
 
-// What a call refuses; the number of each case is the one that users see.
+// What a call refuses, under the number that users see.
 #[derive(Clone, Copy, PartialEq, Eq, Debug)]
 pub enum Refusal {
     TextLength = 1,
@@ -26,7 +26,7 @@ pub enum Refusal {
     NumberRange = 5,
     TooManyAtoms = 6,
     TooManyStates = 7,
-    NoStates = 8,
+    QuestionTooLarge = 8,
     TagCount = 9,
     LengthMismatch = 10,
     UnknownSymbol = 11,
@@ -35,7 +35,7 @@ pub enum Refusal {
     UnknownState = 14,
 }
 
-// A refusal and the place that it is about: a byte of a text, a tag of a load, or 0.
+// A refusal and the place that it is about: a byte of a text or its end, a tag of a load, or 0.
 #[derive(Clone, Copy, PartialEq, Eq, Debug)]
 pub struct Fault {
     pub refusal: Refusal,
@@ -49,7 +49,7 @@ impl Refusal {
         self as u8
     }
 
-    // The layer whose question was answered no.
+    // The layer that asks the question which this refusal answers.
     pub fn layer(self) -> Layer
         ensures { λ r. ⌜ r ≡ layerOf self ⌝ }
     {
@@ -60,7 +60,7 @@ impl Refusal {
             | Refusal::NumberRange
             | Refusal::TooManyAtoms
             | Refusal::TooManyStates => Layer::Limits,
-            Refusal::NoStates
+            Refusal::QuestionTooLarge
             | Refusal::TagCount
             | Refusal::LengthMismatch
             | Refusal::UnknownSymbol
@@ -70,23 +70,55 @@ impl Refusal {
         }
     }
 
-    // One question of a call: passed where `holds`, else this refusal at `place`.
-    pub fn unless(self, holds: bool, place: usize) -> Result<(), Fault>
-        ensures { λ r. ⌜ r ≡ reply self holds place ⌝ }
+    pub fn at(self, place: usize) -> Fault
+        ensures { λ r. ⌜ r ≡ faultAt self place ⌝ }
     {
-        if holds {
-            Ok(())
-        } else {
-            Err(Fault {
-                refusal: self,
-                place,
-            })
+        Fault {
+            refusal: self,
+            place,
+        }
+    }
+
+    // One check of a call: passed where `holds`, else this refusal at `place`.
+    pub fn unless(self, holds: bool, place: usize) -> Result<(), Fault>
+        ensures { λ r. ⌜ r ≡ check self holds place ⌝ }
+    {
+        if holds { Ok(()) } else { Err(self.at(place)) }
+    }
+
+    // What is wrong, in words for whoever made the call.
+    fn sentence(self) -> &'static str
+        ensures { λ r. ⌜ now r ≡ sentenceOf self ⌝ }
+    {
+        match self {
+            Refusal::TextLength => "a question text has 1 to 200 bytes",
+            Refusal::UnknownToken => "this word or mark is not part of the question language",
+            Refusal::Syntax => "here the text stops being a question, or ends too early",
+            Refusal::RepeatedLetter =>
+                "this letter stands a second time in the same sum or list of letters",
+            Refusal::NumberRange =>
+                "a number is out of range: coefficient to 99, bound to 999, modulus 2 to 999, residue below it",
+            Refusal::TooManyAtoms => "a question joins at most 6 atoms, and this is the seventh",
+            Refusal::TooManyStates => "with this atom the question has more than 4294967296 states",
+            Refusal::QuestionTooLarge =>
+                "the question has more than 4294967296 states, too many to run a load",
+            Refusal::TagCount => "a load has 1 to 1024 tags",
+            Refusal::LengthMismatch => "this call was given a list of the wrong length",
+            Refusal::UnknownSymbol => "the reading at this place is none of a to h",
+            Refusal::NoSuchPlace => "the load has no tag at this place",
+            Refusal::SamePlace => "a tag cannot meet itself",
+            Refusal::UnknownState => "the word of this tag is no state of the question",
         }
     }
 }
 
+// The law behind every call's list of checks, as a theorem: the verdict is the first no among them, and yes where there is none.
+pub fn first_no_decides()
+    ensures { λ _. ⌜ First-no-decides ⌝ }
+{}
+
 impl Layer {
-    pub fn name(self) -> &'static str
+    fn name(self) -> &'static str
         ensures { λ r. ⌜ now r ≡ nameOf self ⌝ }
     {
         match self {
@@ -94,30 +126,6 @@ impl Layer {
             Layer::Grammar => "grammar",
             Layer::Limits => "limits",
             Layer::Load => "load",
-        }
-    }
-}
-
-impl Refusal {
-    // What is wrong, in words for whoever made the call.
-    pub fn sentence(self) -> &'static str
-        ensures { λ r. ⌜ now r ≡ sentenceOf self ⌝ }
-    {
-        match self {
-            Refusal::TextLength => "a question text has 1 to 200 bytes",
-            Refusal::UnknownToken => "this word or mark is not part of the question language",
-            Refusal::Syntax => "no question goes on like this from here",
-            Refusal::RepeatedLetter => "this letter stands a second time in one sum or one any",
-            Refusal::NumberRange => "this number is out of range",
-            Refusal::TooManyAtoms => "a question has at most 6 atoms, and this is the seventh",
-            Refusal::TooManyStates => "with this atom the question has more than 4294967296 states",
-            Refusal::NoStates => "the question has too many states to run a load with",
-            Refusal::TagCount => "a load has 1 to 1024 tags",
-            Refusal::LengthMismatch => "the two lists of this call must be of one length",
-            Refusal::UnknownSymbol => "a reading is one of the symbols a to h",
-            Refusal::NoSuchPlace => "the load has no tag at this place",
-            Refusal::SamePlace => "a tag does not meet itself",
-            Refusal::UnknownState => "the word of this tag is no state of the question",
         }
     }
 }
@@ -138,16 +146,20 @@ pub impl fmt::Display for Refusal as RefusalDisplay {
     }
 }
 
+// As `refused 10 at 0 load: ..`, with the sentence.
 pub impl fmt::Display for Fault as FaultDisplay {
     ghost shown = { λ x. Some (faultText x) };
 
     fn fmt<W: fmt::Write>(&self, f: &mut fmt::Formatter<W>) -> fmt::Result {
-        let number = self.refusal.number();
+        let refusal = self.refusal;
+        let number = refusal.number();
         let place = self.place;
-        let layer = self.refusal.layer();
-        let sentence = self.refusal.sentence();
-        write!(f, "refused {number} at {place} {layer}: {sentence}")
+        let layer = refusal.layer();
+        write!(f, "refused {number} at {place} {layer}: {refusal}")
     }
 }
 
 pub impl Error for Fault as FaultError {}
+
+#[cfg(test)]
+mod tests;

@@ -7,8 +7,8 @@ use Rattle.std.proofs.shelf.Ascii.{encode-ascii}
 use Rattle.std.proofs.shelf.Tests.{cond-below}
 use Rattle.reading.proofs.SymbolDisplay.fmt.Needs as need
 
-pub returns-then-number-lt8 : need.returns-then-number-lt8
-returns-then-number-lt8 g c plain ok =
+pub returns-then-from-lt-SYMBOLS : need.returns-then-from-lt-SYMBOLS
+returns-then-from-lt-SYMBOLS g c plain ok =
     put-is _ _ _ _ _
-    (ap encode (c .from-letter .ensures) ∙ encode-ascii _ (omega arith) ∙ cond-below _ 8 _ _ (c .if-number-lt8 .taken))
+    (ap encode (c .from-letter .ensures) ∙ encode-ascii _ (omega arith) ∙ cond-below (c .args .self .now .0) 8 _ _ (omega arith))
     (c .write .ensures .shows plain ok)
