@@ -25,7 +25,7 @@ fn entry(table: &[u8; 256], byte: u8) -> u8
     requires { ⌜ keepsRule (now table) ≡ true ⌝ }
     ensures { λ r. ⌜ r ≡ classOf byte ⌝ }
 {
-    table[byte as usize]
+    table[usize::from(byte)]
 }
 
 // Writes the symbol of each probe byte at its place, or refuses where there are not as many places as bytes.

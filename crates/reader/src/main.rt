@@ -13,7 +13,7 @@ use reading::SymbolDisplay;
 use refusal::FaultError;
 use std::alloc::Global;
 use std::error::AnyError;
-use std::io;
+use std::fmt::Write;
 use std::io::BufRead;
 use std::io::BufReader;
 
@@ -28,13 +28,14 @@ fn run(rt: &LibcRuntime) -> Result<(), AnyError> {
     let mut input = BufReader::new(rt.stdin());
     let mut raw = Vec::new(heap);
     let mut readings = Vec::new(heap);
-    for number in 1..u64::MAX {
+    // No input has so many lines: the bound is what shows that the loop ends.
+    for line_number in 1..u64::MAX {
         raw.clear();
         if input.read_until(b'\n', &mut raw)? == 0 {
             break;
         }
         let text = String::from_utf8_lossy(heap, raw.as_slice())?;
-        class_line(rt, number, text.as_str(), &mut readings)?;
+        class_line(rt, line_number, text.as_str(), &mut readings)?;
     }
     println!(rt, "counts: {}", Counts::of(readings.as_slice()))?;
     Ok(())
@@ -43,7 +44,7 @@ fn run(rt: &LibcRuntime) -> Result<(), AnyError> {
 // Adds the symbols of one line to the readings, and prints what the line held.
 fn class_line(
     rt: &LibcRuntime,
-    number: u64,
+    line_number: u64,
     text: &str,
     readings: &mut Vec<Symbol>,
 ) -> Result<(), AnyError>
@@ -52,7 +53,7 @@ fn class_line(
     let heap = rt.alloc();
     let line = lines::read(heap, text)?;
     let symbols = symbols_of(heap, line.bytes.as_slice())?;
-    print_line(rt, number, symbols.as_slice(), line.others.as_slice())?;
+    print_line(rt, line_number, symbols.as_slice(), line.others.as_slice())?;
     readings.extend_from_slice(symbols.as_slice())?;
     Ok(())
 }
@@ -68,21 +69,21 @@ fn symbols_of(heap: Global, bytes: &[u8]) -> Result<Vec<Symbol>, AnyError>
 // A line with the symbols, if there are any, and then a line for each word that is no probe byte.
 fn print_line(
     rt: &LibcRuntime,
-    number: u64,
+    line_number: u64,
     symbols: &[Symbol],
     others: &[&str],
-) -> io::Result<()> {
+) -> Result<(), AnyError> {
     if !symbols.is_empty() {
-        print!(rt, "line {number}:")?;
+        let mut text = format!(rt.alloc(), "line {line_number}:")?;
         for symbol in symbols {
-            print!(rt, " {symbol}")?;
+            write!(text, " {symbol}")?;
         }
-        println!(rt, "")?;
+        rt.println(text)?;
     }
     for word in others {
         println!(
             rt,
-            "error: line {number}: `{word}` is no probe byte; write a number from 0 to 255"
+            "error: line {line_number}: {word:?} is no probe byte; write a number from 0 to 255"
         )?;
     }
     Ok(())

@@ -23,22 +23,22 @@ impl Counts {
     pub fn of(symbols: &[Symbol]) -> Counts
         ensures { λ r. ⌜ r .0 ≡ countsOf (now (symbols .entry)) ⌝ }
     {
-        let mut counts = [0; SYMBOLS];
+        let mut counts = Counts([0; SYMBOLS]);
         for symbol in symbols {
-            count(&mut counts, *symbol);
+            counts.add(*symbol);
         }
-        Counts(counts)
+        counts
     }
-}
 
-// Counts one symbol; one that is no reading is not counted.
-fn count(counts: &mut [usize; SYMBOLS], symbol: Symbol)
-    requires { ⌜ getD (now counts) (symbol .0) 0 + 1 < 2 ^ 64 ⌝ }
-    ensures { λ _. ⌜ now (counts .exit) ≡ counted (now (counts .entry)) symbol ⌝ }
-{
-    let k = usize::from(symbol.0);
-    if k < SYMBOLS {
-        counts[k] += 1;
+    // Counts one symbol; one that is no reading is not counted.
+    fn add(&mut self, symbol: Symbol)
+        requires { ⌜ getD (now self .0) (symbol .0) 0 + 1 < 2 ^ 64 ⌝ }
+        ensures { λ _. ⌜ now (self .exit) .0 ≡ counted (now (self .entry) .0) symbol ⌝ }
+    {
+        let k = usize::from(symbol.0);
+        if k < SYMBOLS {
+            self.0[k] += 1;
+        }
     }
 }
 

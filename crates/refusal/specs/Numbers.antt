@@ -1,4 +1,4 @@
--- The number of each refusal, and the layer that finds it. Assumes nothing.
+-- The number of each refusal, and the layer that it belongs to. Assumes nothing.
 use mathlib.Core.Bool.{cond}
 use Prim.Native.Nat.{ℕ}
 use lib.Dec.{leb}

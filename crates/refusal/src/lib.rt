@@ -7,7 +7,7 @@ ghost use Rattle.std.specs.declared.option.Option.the-variants.{Some};
 use std::error::Error;
 use std::fmt;
 
-// The layer that found a fault.
+// The layer that a refusal belongs to.
 #[derive(Clone, Copy, PartialEq, Eq, Debug)]
 pub enum Layer {
     Words,
@@ -49,7 +49,6 @@ impl Refusal {
         self as u8
     }
 
-    // The layer that asks the question which this refusal answers.
     pub fn layer(self) -> Layer
         ensures { λ r. ⌜ r ≡ layerOf self ⌝ }
     {

@@ -1,5 +1,5 @@
 -- The slice that was lent comes back with the symbols. Assumes nothing.
-use mathlib.Core.Path.{_≡_, sym, ap, _∙_}
+use mathlib.Core.Path.{sym, ap, _∙_}
 use mathlib.Core.List.{map}
 use Rattle.std.proofs.shelf.Lists.{refilled-is}
 use Rattle.probe.specs.Classes.{symbolOf}
