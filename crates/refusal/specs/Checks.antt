@@ -17,6 +17,7 @@ faultAt r p = record { refusal = r; place = p }
 abbrev pub Check : Type 0
 Check = Result (Unit {0}) Fault
 
+-- answered yes
 abbrev pub Yes : Check → Type 0
 Yes c = c ≡ Ok tt
 
