@@ -81,14 +81,14 @@ map-reached f s t m w ss all z starts first second (met {states} r i j apart) =
     (met (map-reached f s t m w ss all z starts first second r) i j apart)
 
 -- a size that is not 0 is the product
-bounded-is : (n : ℕ) → 0 < bounded n → (bounded n ≡ n) × (n ≤ 2 ^ 32)
+pub bounded-is : (n : ℕ) → 0 < bounded n → (bounded n ≡ n) × (n ≤ 2 ^ 32)
 bounded-is n h =
     ⊎-elim
     (λ e. (cond-true (leb n (2 ^ 32)) n 0 e, leb-true n (2 ^ 32) e))
     (λ e. let z : bounded n ≡ 0 = cond-false (leb n (2 ^ 32)) n 0 e in absurd (omega arith))
     (cases-bool (leb n (2 ^ 32)))
 
-factors : (a b : ℕ) → 0 < a * b → (0 < a) × (0 < b)
+pub factors : (a b : ℕ) → 0 < a * b → (0 < a) × (0 < b)
 factors a b h =
     (⊎-elim (λ (e : a ≡ 0). absurd (omega (arith, ap (λ x. x * b) e, zero-mul b))) (λ ne. omega arith) (cases-eq a 0),
      ⊎-elim (λ (e : b ≡ 0). absurd (omega (arith, ap (λ x. a * x) e, mul-zero a))) (λ ne. omega arith) (cases-eq b 0))
@@ -243,4 +243,4 @@ none-lawful = record {
 pub lanes-lawful : (ps : List (Protocol Bool)) → All Lawful ps → Lawful (lanes ps)
 lanes-lawful [] all = none-lawful
 lanes-lawful (p ∷ ps) all =
-    answered-lawful (λ both. both .0 ∷ both .1) (pair p (lanes ps)) (pair-lawful p (lanes ps) (all .0) (lanes-lawful ps (all .1)))
+    answered-lawful (λ halves. halves .0 ∷ halves .1) (pair p (lanes ps)) (pair-lawful p (lanes ps) (all .0) (lanes-lawful ps (all .1)))

@@ -29,7 +29,17 @@ unlessSettled (Meet first second) then = Meet first second
 unlessSettled Settled then = then
 unlessSettled Lost then = Lost
 
--- two protocols in one number, left × right size + right: every symbol starts both, every meeting meets both, and the left is settled first
+-- a left and a right number in one: left × base + right, the base being the size of the right
+abbrev pub joined : ℕ → ℕ → ℕ → ℕ
+joined base left right = left * base + right
+
+abbrev pub leftOf : ℕ → ℕ → ℕ
+leftOf base state = state / base
+
+abbrev pub rightOf : ℕ → ℕ → ℕ
+rightOf base state = state % base
+
+-- two protocols in one number: every symbol starts both, every meeting meets both, and the left is settled first
 abbrev pub pair : {A B : Type 0} → Protocol A → Protocol B → Protocol (A × B)
 pair l r =
     let base : ℕ = r .tables .size in
@@ -37,14 +47,14 @@ pair l r =
     record {
       tables = record {
         size = size;
-        start = λ symbol. l .tables .start symbol * base + r .tables .start symbol;
-        answer = λ state. (l .tables .answer (state / base), r .tables .answer (state % base));
+        start = λ symbol. joined base (l .tables .start symbol) (r .tables .start symbol);
+        answer = λ state. (l .tables .answer (leftOf base state), r .tables .answer (rightOf base state));
         meet = λ a b.
-          let left : ℕ × ℕ = l .tables .meet (a / base) (b / base) in
-          let right : ℕ × ℕ = r .tables .meet (a % base) (b % base) in
-          (left .0 * base + right .0, left .1 * base + right .1) };
+          let left : ℕ × ℕ = l .tables .meet (leftOf base a) (leftOf base b) in
+          let right : ℕ × ℕ = r .tables .meet (rightOf base a) (rightOf base b) in
+          (joined base (left .0) (right .0), joined base (left .1) (right .1)) };
       weight = cond (eqb size 0) 0 (l .weight + r .weight);
-      next = λ states. unlessSettled (l .next (map (λ q. q / base) states)) (r .next (map (λ q. q % base) states));
+      next = λ states. unlessSettled (l .next (map (leftOf base) states)) (r .next (map (rightOf base) states));
       truth = λ counts. (l .truth counts, r .truth counts) }
 
 -- the protocol of one state, always settled: no lane at all
@@ -58,7 +68,7 @@ none = record {
 -- lanes in one number, the first highest; the answer is the list of theirs
 abbrev pub lanes : List (Protocol Bool) → Protocol (List Bool)
 lanes [] = none
-lanes (p ∷ ps) = answered (λ both. both .0 ∷ both .1) (pair p (lanes ps))
+lanes (p ∷ ps) = answered (λ halves. halves .0 ∷ halves .1) (pair p (lanes ps))
 
 -- 1 for yes, 0 for no
 abbrev pub oneIf : Bool → ℕ
@@ -74,17 +84,17 @@ abbrev pub answersNumber : List Bool → ℕ
 answersNumber [] = 0
 answersNumber (b ∷ bs) = oneIf b + 2 * answersNumber bs
 
--- Not: the answer and the truth reversed
+-- Not (N): the answer and the truth reversed
 abbrev pub negated : Meaning → Meaning
 negated m = record { kind = 78; protocol = answered not (m .protocol) }
 
--- Both: the answer is bit 2 × left + right of the rule
+-- Both (B): the answer is bit 2 × left + right of the rule
 abbrev pub both : ℕ → Meaning → Meaning → Meaning
 both rule l r = record {
     kind = 66;
     protocol = answered (λ b. bitAt rule (2 * oneIf (b .0) + oneIf (b .1))) (pair (l .protocol) (r .protocol)) }
 
--- compiled: lanes and a truth table
+-- compiled (C): lanes and a truth table
 abbrev pub compiled : List Meaning → ℕ → Meaning
 compiled ms table = record {
     kind = 67;

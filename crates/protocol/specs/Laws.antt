@@ -31,7 +31,7 @@ pub data Settles (next : List ℕ → Advice) (meet : ℕ → ℕ → ℕ × ℕ
     → Settles next meet n (meeting meet states first second) k
     → Settles next meet n states (suc k)
 
--- the laws of one protocol, where it has a state
+-- what is owed wherever the meetings of a load with these symbols have left it
 pub record Stable {A : Type 0} (p : Protocol A) (symbols : List Symbol) (states : List ℕ) : Type 0 where
   -- the advice settles the load
   pub settles : Settles (p .next) (p .tables .meet) (length symbols) states (p .weight * (length symbols - 1))
@@ -42,6 +42,7 @@ pub record Stable {A : Type 0} (p : Protocol A) (symbols : List Symbol) (states 
   pub stays : p .next states ≡ Settled → (first second : ℕ) → Apart (length symbols) first second
     → p .next (meeting (p .tables .meet) states first second) ≡ Settled
 
+-- the laws of a protocol. They speak of states: what is owed of words and a unit follows, since the advice on words is that on the states read in them
 pub record Lawful {A : Type 0} (p : Protocol A) : Type 0 where
   pub size-fits : p .tables .size ≤ 2 ^ 32
   pub weight-fits : p .weight ≤ 65536 * (p .tables .size - 1)

@@ -7,7 +7,7 @@ use lib.ListN.{length}
 use Rattle.protocol.specs.declared.Advice.{Advice}
 use Rattle.protocol.specs.declared.Advice.the-variants.{Lost}
 
--- the tables of a protocol whose tags answer in A; they count for known numbers, those below the size, and for the symbols 0 to 7
+-- the tables of a protocol whose tags answer in A; they apply to known numbers, those below the size, and to the symbols 0 to 7
 pub record Tables (A : Type 0) : Type 0 where
   -- how many states there are
   pub size : ℕ
@@ -36,7 +36,7 @@ pub record Meaning : Type 0 where
 -- The replies. Each is total: it says what is answered on all input.
 
 -- the start of a symbol: 0 for a symbol above 7, and where there is no state
-abbrev pub startReply : Tables Bool → ℕ → ℕ
+abbrev pub startReply : {A : Type 0} → Tables A → ℕ → ℕ
 startReply t symbol = cond (ltb symbol 8 && ltb 0 (t .size)) (t .start symbol) 0
 
 -- the answer of a number: no for an unknown one
@@ -44,20 +44,20 @@ abbrev pub answerReply : Tables Bool → ℕ → Bool
 answerReply t state = cond (ltb state (t .size)) (t .answer state) false
 
 -- a meeting: two numbers of which one is unknown come back unaltered
-abbrev pub meetReply : Tables Bool → ℕ → ℕ → ℕ × ℕ
+abbrev pub meetReply : {A : Type 0} → Tables A → ℕ → ℕ → ℕ × ℕ
 meetReply t first second =
     cond (ltb first (t .size) && ltb second (t .size)) (t .meet first second) (first, second)
 
 -- the state number that a unit reads in a word: a digit of the word
 abbrev pub stateRead : ℕ → ℕ → ℕ → ℕ
-stateRead unit size word = word / unit % size
+stateRead unit size word = (word / unit) % size
 
 -- the units with which states of this many can be read in words of 32 bits
 abbrev pub allowedUnit : ℕ → ℕ → Bool
 allowedUnit unit size = ltb 0 unit && (ltb 0 size && leb (unit * size) (2 ^ 32))
 
 -- the advice on words with a unit: it depends on the state numbers read, and on nothing else
-abbrev pub adviceReply : Protocol Bool → List ℕ → ℕ → Advice
+abbrev pub adviceReply : {A : Type 0} → Protocol A → List ℕ → ℕ → Advice
 adviceReply p words unit =
     cond (ltb 0 (length words) && allowedUnit unit (p .tables .size))
     (p .next (map (stateRead unit (p .tables .size)) words))

@@ -6,16 +6,16 @@
 pub enum Advice {
     // The tag at the first place meets, as the first, the one at the second.
     Meet(usize, usize),
-    // Every tag's answer is the truth, and no meeting changes one.
+    // Nobody has to: in a load that meetings of started tags left so, every answer is the truth, and no meeting changes one.
     Settled,
-    // The tags hold what no meetings of a started load leave.
+    // No advice: there are no words, the unit does not fit, or the tags hold what no started load comes to.
     Lost,
 }
 
 // What a tag of a threshold or a remainder holds.
 #[derive(Clone, Copy, PartialEq, Eq, Debug)]
 pub struct Fields<V> {
-    // Whether it may still join its value with another's.
+    // Whether it leads: two tags join their values where one of them leads.
     pub lead: bool,
     // Its answer.
     pub bit: bool,
