@@ -1,2 +1,11 @@
 pub mod Places
 pub mod Joining
+pub mod Weighed
+pub mod ThresholdFields
+pub mod ThresholdLoads
+pub mod ThresholdSettles
+pub mod ThresholdViews
+pub mod Threshold
+pub mod RemainderFields
+pub mod Presence
+pub mod Remainder

@@ -10,11 +10,13 @@ use Rattle.protocol.specs.declared.Advice.{Advice}
 use Rattle.protocol.specs.declared.Fields.{Fields}
 use Rattle.protocol.specs.Protocols.{Protocol, Meaning}
 use Rattle.protocol.specs.Places.{stateAt, lowest, other, led}
-use Rattle.protocol.specs.Sums.{coefficientOf, weighed, packed, valuePart, leadPart, bitPart}
+use Rattle.protocol.specs.Sums.{coefficientOf, weighed, differs, packed, valuePart, leadPart, bitPart}
 
+-- fields to number, for values below the modulus
 abbrev pub numberOf : Fields ℕ → ℕ
 numberOf f = packed (f .value) (f .lead) (f .bit)
 
+-- number to fields
 abbrev pub fieldsOf : ℕ → Fields ℕ
 fieldsOf state = record { lead = leadPart state; bit = bitPart state; value = valuePart state }
 
@@ -34,7 +36,7 @@ metFields modulus residue a b =
 abbrev pub partnerRules : ℕ → (ℕ → Fields ℕ) → ℕ → List (ℕ → Bool)
 partnerRules residue tag leader =
     other leader (λ place. tag place .lead)
-    ∷ other leader (λ place. cond (eqb (tag leader .value) residue) (not (tag place .bit)) (tag place .bit))
+    ∷ other leader (λ place. differs (eqb (tag leader .value) residue) (tag place .bit))
     ∷ []
 
 abbrev pub nextOf : ℕ → List ℕ → Advice

@@ -1,5 +1,5 @@
 -- What thresholds and remainders share: a sum of coefficients over the tags, and tags with a lead, a bit and a value. Assumes nothing.
-use mathlib.Core.Bool.{Bool, cond}
+use mathlib.Core.Bool.{Bool, cond, not}
 use mathlib.Core.List.{List, [], _∷_}
 use Prim.Native.Nat.{ℕ, _+_, _*_, _/_, _%_}
 use lib.Dec.{eqb}
@@ -18,7 +18,11 @@ weighed [] counts = pos 0
 weighed (k ∷ ks) [] = pos 0
 weighed (k ∷ ks) (n ∷ ns) = (k *ℤ pos n) +ℤ weighed ks ns
 
--- a value's number, a lead and a bit in one number
+-- one of the two bits is set, the other is not
+abbrev pub differs : Bool → Bool → Bool
+differs a b = cond a (not b) b
+
+-- a value's number, a lead and a bit in one number, and the parts again
 abbrev pub packed : ℕ → Bool → Bool → ℕ
 packed value lead bit = value * 4 + 2 * oneIf lead + oneIf bit
 

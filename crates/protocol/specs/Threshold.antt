@@ -10,7 +10,7 @@ use Rattle.protocol.specs.declared.Advice.{Advice}
 use Rattle.protocol.specs.declared.Fields.{Fields}
 use Rattle.protocol.specs.Protocols.{Protocol, Meaning}
 use Rattle.protocol.specs.Places.{stateAt, lowest, other, led}
-use Rattle.protocol.specs.Sums.{coefficientOf, weighed, packed, valuePart, leadPart, bitPart}
+use Rattle.protocol.specs.Sums.{coefficientOf, weighed, differs, packed, valuePart, leadPart, bitPart}
 
 -- the largest absolute value of the coefficients
 abbrev pub largest : List ℤ → ℕ
@@ -21,9 +21,11 @@ largest (k ∷ ks) = max (natAbs k) (largest ks)
 abbrev pub spanOf : List ℤ → ℤ → ℕ
 spanOf coefficients bound = max (natAbs bound + 1) (largest coefficients)
 
+-- fields to number, for values from -s to s
 abbrev pub numberOf : ℕ → Fields ℤ → ℕ
 numberOf s f = packed (natAbs (f .value +ℤ pos s)) (f .lead) (f .bit)
 
+-- number to fields
 abbrev pub fieldsOf : ℕ → ℕ → Fields ℤ
 fieldsOf s state = record {
     lead = leadPart state; bit = bitPart state; value = pos (valuePart state) -ℤ pos s }
@@ -48,9 +50,9 @@ isZero z = eqb (natAbs z) 0
 abbrev pub opposes : ℤ → ℤ → Bool
 opposes u v = (ltZ u (pos 0) && ltZ (pos 0) v) || ((ltZ (pos 0) u && ltZ v (pos 0)) || (isZero u && not (isZero v)))
 
--- a tag that has not yet heard from a leader whose bit would be this one
+-- a tag that leads, or whose bit is not this one
 abbrev pub unheard : Bool → Fields ℤ → Bool
-unheard bit f = f .lead || cond bit (not (f .bit)) (f .bit)
+unheard bit f = f .lead || differs bit (f .bit)
 
 -- the leader's partner, by three rules in their order
 abbrev pub partnerRules : ℕ → ℤ → (ℕ → Fields ℤ) → ℕ → List (ℕ → Bool)

@@ -10,4 +10,5 @@ use Rattle.protocol.specs.Protocols.{stateRead}
 -- the lowest place that passes, where a unit reads the states in the words
 abbrev pub lowestRead : (ℕ → ℕ → Bool) → ℕ → ℕ → List ℕ → Option ℕ
 lowestRead passes unit size words =
-    lowest (λ place. passes place (stateAt (map (stateRead unit size) words) place)) (length words)
+    let states : List ℕ = map (stateRead unit size) words in
+    lowest (λ place. passes place (stateAt states place)) (length states)

@@ -4,10 +4,10 @@ use mathlib.Core.List.{map}
 use mathlib.Core.Bool.{true, false}
 use Prim.Native.Nat.{ℕ, _<_}
 use native.Mathlib.Omega.{arith}
-use lib.ListN.{length, getD}
+use lib.ListN.{length, getD, length-map}
 use Rattle.std.proofs.shelf.Lists.{getD-map}
 use Rattle.protocol.specs.Protocols.{stateRead}
-use Rattle.protocol.specs.Places.{stateAt}
+use Rattle.protocol.specs.Places.{stateAt, lowest}
 use Rattle.protocol.proofs.Places.{lowest-is, lowest-fails}
 use Rattle.question.proofs.digit.Digit.lowest.Needs as need
 
@@ -18,7 +18,8 @@ returns-then-passes-at g c =
     let passes = g .T·Test .passes (c .args .test .now) in
     let place = c .loop-place .place in
     let here = c .loop-place-test .taken in
-    sym (lowest-is (λ k. passes k (stateAt (map read words) k)) (length words) place here
+    sym (ap (lowest (λ k. passes k (stateAt (map read words) k))) (length-map words read)
+      ∙ lowest-is (λ k. passes k (stateAt (map read words) k)) (length words) place here
       (ap (passes place) (getD-map read words place 0 0 here ∙ sym (c .of .ensures)) ∙ sym (c .if-passes-at .ensures tt))
       (λ k h. ap (passes k) (getD-map read words k 0 0 (omega arith)) ∙ c .loop-place .inv k h))
 
@@ -28,5 +29,6 @@ returns g c =
     let read : ℕ → ℕ = stateRead (c .args .self .now .unit) (c .args .self .now .size) in
     let passes = g .T·Test .passes (c .args .test .now) in
     let end = c .loop-place-test .left in
-    sym (lowest-fails (λ k. passes k (stateAt (map read words) k)) (length words)
+    sym (ap (lowest (λ k. passes k (stateAt (map read words) k))) (length-map words read)
+      ∙ lowest-fails (λ k. passes k (stateAt (map read words) k)) (length words)
       (λ k h. ap (passes k) (getD-map read words k 0 0 h) ∙ c .loop-place .inv k (omega arith)))
