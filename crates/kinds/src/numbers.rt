@@ -2,16 +2,24 @@
 ghost use mathlib.Core.Path.{_≡_};
 ghost use mathlib.Core.Bool.{Bool};
 ghost use Prim.Native.Nat.{ℕ};
+ghost use lib.Dec.{leb};
+ghost use lib.IntN.{natAbs};
 ghost use Rattle.protocol.specs.Sums.{leadPart};
 ghost use Rattle.kinds.specs.Ranges.{coefficientsFit};
 use question::digit::Test;
+
+fn coefficient_fits(k: i32) -> bool
+    ensures { λ r. ⌜ r ≡ leb (natAbs k) 99 ⌝ }
+{
+    k.unsigned_abs() <= 99
+}
 
 // Whether each coefficient is one of -99 to 99.
 pub(crate) fn coefficients_fit(coefficients: &[i32]) -> bool
     ensures { λ r. ⌜ r ≡ coefficientsFit (now (coefficients .entry)) ⌝ }
 {
     for k in coefficients {
-        if k.unsigned_abs() > 99 {
+        if !coefficient_fits(*k) {
             return false;
         }
     }

@@ -66,9 +66,12 @@ pub impl Question for Presence as PresenceQuestion {
         if words.is_empty() {
             return Advice::Lost;
         }
-        match (digit.lowest(words, &Holds(1)), digit.lowest(words, &Holds(0))) {
-            (Some(first), Some(second)) => Advice::Meet(first, second),
-            _ => Advice::Settled,
+        let Some(first) = digit.lowest(words, &Holds(1)) else {
+            return Advice::Settled;
+        };
+        match digit.lowest(words, &Holds(0)) {
+            Some(second) => Advice::Meet(first, second),
+            None => Advice::Settled,
         }
     }
 }

@@ -150,3 +150,11 @@ unsettled Lost b h = refl
 -- words that are not empty
 pub nonempty : (words : List ℕ) → false ≡ eqb (length words) 0 → ltb 0 (length words) ≡ true
 nonempty words e = lt-ltb 0 (length words) (let ne = eqb-false (length words) 0 (sym e) in omega arith)
+
+-- where there are words and the unit is allowed, the advice is that on the states that the digit reads
+pub advice-read : {A : Type 0} (p : Protocol A) (words : List ℕ) (unit size u s : ℕ) → size ≡ p .tables .size → true ≡ allowedUnit unit size
+  → u ≡ unit → s ≡ size → ltb 0 (length words) ≡ true → adviceReply p words unit ≡ p .next (map (stateRead u s) words)
+advice-read p words unit size u s e ok f g some =
+    cond-true _ _ _ (and-from _ _ some (ap (allowedUnit unit) (sym e) ∙ sym ok))
+    ∙ ap (λ n. p .next (map (stateRead unit n) words)) (sym e ∙ sym g)
+    ∙ ap (λ n. p .next (map (stateRead n s) words)) (sym f)
