@@ -4,12 +4,12 @@ use mathlib.Core.Logic.{⊎-elim}
 use mathlib.Core.Bool.{Bool, true, false, cond, _&&_}
 use mathlib.Core.List.{List, [], _∷_, map}
 use Prim.Native.Nat.{ℕ, _+_, _*_, _/_, _%_, _^_, _≤_, _<_}
-use native.Mathlib.Nat.{mod-lt, div-div-eq-div-mul, mul-comm, mul-assoc, mul-le-mul-left, le-mul-of-pos-right}
+use native.Mathlib.Nat.{mod-lt, div-div-eq-div-mul, mul-comm, mul-assoc, mul-le-mul-left, le-mul-of-pos-right, zero-mul}
 use native.Mathlib.Omega.{arith}
 use lib.Arith.{digits-div, digits-mod, mod-mul}
 use lib.Dec.{ltb, leb, eqb}
 use lib.ListN.{length}
-use Rattle.std.proofs.shelf.Tests.{cond-true, cond-false, and-from, lt-ltb, le-leb, ltb-true, cases-bool, eqb-false}
+use Rattle.std.proofs.shelf.Tests.{cond-true, cond-false, and-from, lt-ltb, le-leb, ltb-true, cases-bool, eqb-false, and-left, and-right, cond-both}
 use Rattle.std.specs.Options.{valueOr}
 use Rattle.std.specs.declared.option.Option.{Option}
 use Rattle.std.specs.declared.option.Option.the-variants.{Some, None}
@@ -158,3 +158,60 @@ advice-read p words unit size u s e ok f g some =
     cond-true _ _ _ (and-from _ _ some (ap (allowedUnit unit) (sym e) ∙ sym ok))
     ∙ ap (λ n. p .next (map (stateRead unit n) words)) (sym e ∙ sym g)
     ∙ ap (λ n. p .next (map (stateRead n s) words)) (sym f)
+
+-- a number without halves is unknown, and does not meet
+pub halves-none : (lefts rights state : ℕ) → halvesReply lefts rights state ≡ None → ltb state (bounded (lefts * rights)) ≡ false
+halves-none lefts rights state e =
+    ⊎-elim
+    (λ known.
+      let value : _≡_ {A = Option (ℕ × ℕ)} (Some (leftOf rights state, rightOf rights state)) None = sym (cond-true _ _ None known) ∙ e in
+      let z : _≡_ {A = ℕ} 0 1 = cc in absurd (omega arith))
+    (λ unknown. unknown)
+    (cases-bool (ltb state (bounded (lefts * rights))))
+
+pub first-unknown : {A B : Type 0} (l : Protocol A) (r : Protocol B) (first second : ℕ)
+  → halvesReply (l .tables .size) (r .tables .size) first ≡ None → meetReply (pair l r .tables) first second ≡ (first, second)
+first-unknown l r first second e =
+    cond-false _ _ (first, second) (and-left _ _ (halves-none (l .tables .size) (r .tables .size) first e))
+
+pub second-unknown : {A B : Type 0} (l : Protocol A) (r : Protocol B) (first second : ℕ)
+  → halvesReply (l .tables .size) (r .tables .size) second ≡ None → meetReply (pair l r .tables) first second ≡ (first, second)
+second-unknown l r first second e =
+    cond-false _ _ (first, second) (and-right (ltb first (pair l r .tables .size)) _ (halves-none (l .tables .size) (r .tables .size) second e))
+
+-- a symbol starts both halves
+pub start-joined : {A B : Type 0} (l : Protocol A) (r : Protocol B) → Lawful l → Lawful r → (symbol : ℕ)
+  → valueOr (numberReply (l .tables .size) (r .tables .size) (startReply (l .tables) symbol) (startReply (r .tables) symbol)) 0
+    ≡ startReply (pair l r .tables) symbol
+start-joined l r ll lr symbol =
+    ⊎-elim
+    (λ reading.
+      ⊎-elim
+      (λ some.
+        let big = ltb-true 0 (pair l r .tables .size) some in
+        let same = bounded-is (l .tables .size * r .tables .size) big in
+        let parts = factors (l .tables .size) (r .tables .size) (omega arith) in
+        let k = ltb-true symbol 8 reading in
+        let left : startReply (l .tables) symbol ≡ l .tables .start symbol = cond-true _ _ 0 (and-from _ _ reading (lt-ltb 0 (l .tables .size) (parts .0))) in
+        let right : startReply (r .tables) symbol ≡ r .tables .start symbol = cond-true _ _ 0 (and-from _ _ reading (lt-ltb 0 (r .tables .size) (parts .1))) in
+        ap (λ x. valueOr (numberReply (l .tables .size) (r .tables .size) x (startReply (r .tables) symbol)) 0) left
+        ∙ ap (λ y. valueOr (numberReply (l .tables .size) (r .tables .size) (l .tables .start symbol) y) 0) right
+        ∙ ap (λ o. valueOr o 0) (number-is (l .tables .size) (r .tables .size) _ _ (same .1) (ll .start-known symbol k (parts .0)) (lr .start-known symbol k (parts .1)))
+        ∙ sym (cond-true _ _ 0 (and-from _ _ reading some)))
+      (λ empty.
+        ap (λ o. valueOr o 0) (cond-false _ _ None (and-left _ _ empty))
+        ∙ sym (cond-false _ _ 0 (and-right (ltb symbol 8) _ empty)))
+      (cases-bool (ltb 0 (pair l r .tables .size))))
+    (λ none.
+      let left : startReply (l .tables) symbol ≡ 0 = cond-false _ _ 0 (and-left _ _ none) in
+      let right : startReply (r .tables) symbol ≡ 0 = cond-false _ _ 0 (and-left _ _ none) in
+      ap (λ x. valueOr (numberReply (l .tables .size) (r .tables .size) x (startReply (r .tables) symbol)) 0) left
+      ∙ ap (λ y. valueOr (numberReply (l .tables .size) (r .tables .size) 0 y) 0) right
+      ∙ zeros (l .tables .size) (r .tables .size)
+      ∙ sym (cond-false _ _ 0 (and-left _ _ none)))
+    (cases-bool (ltb symbol 8))
+  where
+  zeros : (lefts rights : ℕ) → valueOr (numberReply lefts rights 0 0) 0 ≡ 0
+  zeros lefts rights =
+      cond-both (ltb 0 (bounded (lefts * rights)) && (ltb 0 lefts && ltb 0 rights)) (Some (joined rights 0 0)) None (λ o. valueOr o 0 ≡ 0)
+      (λ _. omega (arith, zero-mul rights)) (λ _. refl)
