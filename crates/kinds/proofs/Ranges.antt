@@ -15,7 +15,7 @@ use Rattle.protocol.proofs.Remainder.{remainder-lawful}
 use Rattle.protocol.proofs.Threshold.{threshold-lawful}
 use Rattle.kinds.specs.Ranges.{coefficientsFit, remainderFits, thresholdFits}
 
-pub coefficients-within : (ks : List ℤ) → coefficientsFit ks ≡ true → All (λ k. natAbs k ≤ 99) ks
+coefficients-within : (ks : List ℤ) → coefficientsFit ks ≡ true → All (λ k. natAbs k ≤ 99) ks
 coefficients-within [] e = tt
 coefficients-within (k ∷ ks) e =
     let parts = and-parts (leb (natAbs k) 99) (coefficientsFit ks) e in
@@ -28,7 +28,12 @@ remainder-in-range ks m c eight e =
     let three = and-parts (leb m 999) (ltb c m) (two .1) in
     remainder-lawful ks m c eight (leb-true 2 m (two .0)) (leb-true m 999 (three .0)) (ltb-true c m (three .1))
 
+pub threshold-within : (ks : List ℤ) (c : ℤ) → thresholdFits ks c ≡ true → All (λ k. natAbs k ≤ 99) ks × (natAbs c ≤ 999)
+threshold-within ks c e =
+    let parts = and-parts (coefficientsFit ks) (leb (natAbs c) 999) e in
+    (coefficients-within ks (parts .0), leb-true (natAbs c) 999 (parts .1))
+
 pub threshold-in-range : (ks : List ℤ) (c : ℤ) → length ks ≡ 8 → thresholdFits ks c ≡ true → Lawful (thresholdProtocol ks c)
 threshold-in-range ks c eight e =
-    let parts = and-parts (coefficientsFit ks) (leb (natAbs c) 999) e in
-    threshold-lawful ks c eight (coefficients-within ks (parts .0)) (leb-true (natAbs c) 999 (parts .1))
+    let fit = threshold-within ks c e in
+    threshold-lawful ks c eight (fit .0) (fit .1)
