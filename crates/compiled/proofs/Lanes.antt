@@ -22,12 +22,13 @@ use Rattle.protocol.specs.Laws.{Lawful}
 use Rattle.protocol.proofs.Joining.{lanes-lawful}
 use Rattle.protocol.proofs.Presence.{presence-lawful}
 use Rattle.std.specs.shelf.Lists.{All}
-use Rattle.kinds.proofs.Ranges.{remainder-in-range}
+use Rattle.kinds.proofs.Ranges.{threshold-in-range, remainder-in-range}
 use Rattle.compiled.specs.declared.lane.Lane.{Lane}
-use Rattle.compiled.specs.declared.lane.Lane.the-variants.{Remainder, Presence}
+use Rattle.compiled.specs.declared.lane.Lane.the-variants.{Threshold, Remainder, Presence}
 use Rattle.compiled.specs.Lanes.{laneMeaning, lanesOf}
 
 pub lane-lawful : (l : Lane) → Lawful (laneMeaning l .protocol)
+lane-lawful (Threshold q) = threshold-in-range (q .coefficients) (q .bound) (q .eight) (q .fits)
 lane-lawful (Remainder q) = remainder-in-range (q .coefficients) (q .modulus) (q .residue) (q .eight) (q .fits)
 lane-lawful (Presence q) = presence-lawful (q .mask)
 

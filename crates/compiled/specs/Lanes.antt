@@ -1,18 +1,65 @@
 -- What a lane means, and several of them. Assumes nothing.
-use mathlib.Core.Bool.{Bool}
-use mathlib.Core.List.{List, map}
+use mathlib.Core.Bool.{Bool, true, false, cond, _&&_}
+use mathlib.Core.List.{List, [], _∷_, map}
+use Prim.Native.Nat.{ℕ, _^_}
+use lib.Dec.{ltb, leb}
+use lib.ListN.{length, getD}
+use Rattle.std.specs.declared.option.Option.{Option}
+use Rattle.std.specs.declared.option.Option.the-variants.{Some, None}
+use Rattle.refusal.specs.Checks.{Check, check}
+use Rattle.refusal.specs.declared.Refusal.the-variants.{NumberRange, TooManyAtoms, TooManyStates, LengthMismatch}
 use Rattle.protocol.specs.Protocols.{Meaning, Protocol}
-use Rattle.protocol.specs.Joining.{lanes}
+use Rattle.protocol.specs.Joining.{lanes, joined, leftOf, rightOf}
 use Rattle.protocol.specs.Presence.{presence}
 use Rattle.protocol.specs.Remainder.{remainder}
+use Rattle.protocol.specs.Threshold.{threshold}
 use Rattle.compiled.specs.declared.lane.Lane.{Lane}
-use Rattle.compiled.specs.declared.lane.Lane.the-variants.{Remainder, Presence}
+use Rattle.compiled.specs.declared.lane.Lane.the-variants.{Threshold, Remainder, Presence}
 
 -- a lane means what its question means
 abbrev pub laneMeaning : Lane → Meaning
+laneMeaning (Threshold q) = threshold (q .coefficients) (q .bound)
 laneMeaning (Remainder q) = remainder (q .coefficients) (q .modulus) (q .residue)
 laneMeaning (Presence q) = presence (q .mask)
 
+abbrev pub laneProtocols : List Lane → List (Protocol Bool)
+laneProtocols ls = map (λ l. laneMeaning l .protocol) ls
+
 -- lanes in one number, the first highest
 abbrev pub lanesOf : List Lane → Protocol (List Bool)
-lanesOf ls = lanes (map (λ l. laneMeaning l .protocol) ls)
+lanesOf ls = lanes (laneProtocols ls)
+
+-- one number a lane, in the order of the lanes, and a number again
+abbrev pub splitNumber : List Lane → ℕ → List ℕ
+splitNumber [] state = []
+splitNumber (l ∷ ls) state = leftOf (lanesOf ls .tables .size) state ∷ splitNumber ls (rightOf (lanesOf ls .tables .size) state)
+
+abbrev pub joinNumbers : List Lane → List ℕ → ℕ
+joinNumbers [] ns = 0
+joinNumbers (l ∷ ls) [] = 0
+joinNumbers (l ∷ ls) (n ∷ ns) = joined (lanesOf ls .tables .size) n (joinNumbers ls ns)
+
+-- as many numbers as lanes, each known in its lane
+abbrev pub eachKnown : List Lane → List ℕ → Bool
+eachKnown [] [] = true
+eachKnown [] (n ∷ ns) = false
+eachKnown (l ∷ ls) [] = false
+eachKnown (l ∷ ls) (n ∷ ns) = ltb n (laneMeaning l .protocol .tables .size) && eachKnown ls ns
+
+-- the number of a lane in a state: none for an unknown state or a lane that is not there
+abbrev pub laneStateReply : List Lane → ℕ → ℕ → Option ℕ
+laneStateReply ls lane state =
+    cond (ltb lane (length ls) && ltb state (lanesOf ls .tables .size)) (Some (getD (splitNumber ls state) lane 0)) None
+
+-- the state of one number a lane, where there are not too many
+abbrev pub numberReply : List Lane → List ℕ → Option ℕ
+numberReply ls ns = cond (ltb 0 (lanesOf ls .tables .size) && eachKnown ls ns) (Some (joinNumbers ls ns)) None
+
+-- what is asked of the lanes and the table of which a question is made
+abbrev pub lanesChecks : List Lane → ℕ → List Check
+lanesChecks ls table =
+    check LengthMismatch (ltb 0 (length ls)) 0
+    ∷ check TooManyAtoms (leb (length ls) 6) 0
+    ∷ check TooManyStates (ltb 0 (lanesOf ls .tables .size)) 0
+    ∷ check NumberRange (ltb table (2 ^ (2 ^ length ls))) 0
+    ∷ []

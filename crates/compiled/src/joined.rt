@@ -5,7 +5,7 @@ ghost use Prim.Native.Nat.{ℕ, _<_, _≤_, _^_};
 ghost use lib.ListN.{length};
 ghost use Rattle.protocol.specs.Protocols.{startReply, meetReply, adviceReply};
 ghost use Rattle.protocol.specs.Joining.{answersNumber};
-ghost use Rattle.compiled.specs.Lanes.{lanesOf};
+ghost use Rattle.compiled.specs.Lanes.{lanesOf, laneStateReply, numberReply};
 use super::lane::Lane;
 use super::lane::LaneQuestion;
 use protocol::Advice;
@@ -105,6 +105,47 @@ pub(crate) fn advice_of(lanes: &[Lane], words: &[u32], unit: u64) -> Advice
         [lane, rest @ ..] => match lane.advice(words, unit * size_of(rest)) {
             Advice::Settled => advice_of(rest, words, unit),
             other => other,
+        },
+    }
+}
+
+// The number of a lane in a state: none for an unknown state or a lane that is not there.
+pub(crate) fn lane_state_of(lanes: &[Lane], place: usize, state: u32) -> Option<u32>
+    ensures { λ r. ⌜ r ≡ laneStateReply (now (lanes .entry)) place state ⌝ }
+{
+    match lanes {
+        [] => None,
+        [lane, rest @ ..] => match states::halves(lane.size(), size_of(rest), state) {
+            Some((first, others)) => {
+                if place == 0 {
+                    Some(first)
+                } else {
+                    lane_state_of(rest, place - 1, others)
+                }
+            }
+            None => None,
+        },
+    }
+}
+
+// The state of one number a lane: none where their number is not the lanes', and where one is unknown.
+pub(crate) fn number_of(lanes: &[Lane], numbers: &[u32]) -> Option<u32>
+    ensures { λ r. ⌜ r ≡ numberReply (now (lanes .entry)) (now (numbers .entry)) ⌝ }
+{
+    match lanes {
+        [] => {
+            if numbers.is_empty() {
+                Some(0)
+            } else {
+                None
+            }
+        }
+        [lane, rest @ ..] => match numbers {
+            [] => None,
+            [first, others @ ..] => match number_of(rest, others) {
+                Some(low) => states::number(lane.size(), size_of(rest), *first, low),
+                None => None,
+            },
         },
     }
 }

@@ -5,6 +5,8 @@ use kinds::Presence;
 use kinds::PresenceQuestion;
 use kinds::Remainder;
 use kinds::RemainderQuestion;
+use kinds::Threshold;
+use kinds::ThresholdQuestion;
 use protocol::Advice;
 use question::Question;
 use reading::Symbol;
@@ -12,6 +14,7 @@ use reading::Symbol;
 // A new kind is one case more here and in `asked`.
 #[derive(Clone, Copy)]
 pub enum Lane {
+    Threshold(Threshold),
     Remainder(Remainder),
     Presence(Presence),
 }
@@ -20,6 +23,7 @@ pub enum Lane {
 macro_rules! asked {
     ($lane:expr, $question:ident => $reply:expr) => {
         match $lane {
+            Lane::Threshold($question) => $reply,
             Lane::Remainder($question) => $reply,
             Lane::Presence($question) => $reply,
         }

@@ -95,7 +95,5 @@ both rule l r = record {
     protocol = answered (λ b. bitAt rule (2 * oneIf (b .0) + oneIf (b .1))) (pair (l .protocol) (r .protocol)) }
 
 -- compiled (C): lanes and a truth table
-abbrev pub compiled : List Meaning → ℕ → Meaning
-compiled ms table = record {
-    kind = 67;
-    protocol = answered (λ bs. bitAt table (answersNumber bs)) (lanes (map (λ m. m .protocol) ms)) }
+abbrev pub compiled : List (Protocol Bool) → ℕ → Meaning
+compiled ps table = record { kind = 67; protocol = answered (λ bs. bitAt table (answersNumber bs)) (lanes ps) }

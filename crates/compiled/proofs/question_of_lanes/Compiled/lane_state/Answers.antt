@@ -1,0 +1,13 @@
+-- The numbers of a known state make it again. Assumes nothing.
+use mathlib.Core.Path.{_≡_, sym, ap, _∙_}
+use lib.ListN.{take}
+use Rattle.compiled.specs.Lanes.{laneStateReply}
+use Rattle.compiled.proofs.Numbers.{split-undone}
+use Rattle.compiled.proofs.question_of_lanes.Compiled.lane_state.Needs as need
+
+pub returns : need.returns
+returns c =
+    let q = c .args .self .now in
+    record {
+      value = c .lane-state-of .ensures ∙ ap (λ ls. laneStateReply ls (c .args .place) (c .args .state)) (c .lanes .ensures);
+      undone = split-undone (take (q .count) (q .kept)) (c .args .state) }
