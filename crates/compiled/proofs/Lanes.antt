@@ -63,9 +63,9 @@ none-advice words unit some ok = sym (cond-true _ Settled Lost (and-from _ _ som
 
 -- the replies of lanes, by those of the first and of the rest: what the code computes, step by step
 module _ (l : Lane) (rest : List Lane) (lefts rights : ℕ)
-  (sized : lefts ≡ laneMeaning l .protocol .tables .size) (others : rights ≡ lanesOf rest .tables .size) where
+    (sized : lefts ≡ laneMeaning l .protocol .tables .size) (others : rights ≡ lanesOf rest .tables .size) where
   pub starts : (symbol x y : ℕ) → x ≡ startReply (laneMeaning l .protocol .tables) symbol → y ≡ startReply (lanesOf rest .tables) symbol
-    → valueOr (numberReply lefts rights x y) 0 ≡ startReply (lanesOf (l ∷ rest) .tables) symbol
+      → valueOr (numberReply lefts rights x y) 0 ≡ startReply (lanesOf (l ∷ rest) .tables) symbol
   starts symbol x y e f =
       ap (λ n. valueOr (numberReply n rights x y) 0) sized
       ∙ ap (λ n. valueOr (numberReply (laneMeaning l .protocol .tables .size) n x y) 0) others
@@ -84,56 +84,57 @@ module _ (l : Lane) (rest : List Lane) (lefts rights : ℕ)
   unmet-second first second e = sym (second-unknown (laneMeaning l .protocol) (lanesOf rest) first second (sym (split second) ∙ e))
 
   pub meets : (first second : ℕ) (a b : ℕ × ℕ) (x y : ℕ × ℕ) (p q : ℕ) → halvesReply lefts rights first ≡ Some a → halvesReply lefts rights second ≡ Some b
-    → x ≡ meetReply (laneMeaning l .protocol .tables) (a .0) (b .0) → y ≡ meetReply (lanesOf rest .tables) (a .1) (b .1)
-    → p ≡ valueOr (numberReply lefts rights (x .0) (y .0)) first → q ≡ valueOr (numberReply lefts rights (x .1) (y .1)) second
-    → (p, q) ≡ meetReply (lanesOf (l ∷ rest) .tables) first second
+      → x ≡ meetReply (laneMeaning l .protocol .tables) (a .0) (b .0) → y ≡ meetReply (lanesOf rest .tables) (a .1) (b .1)
+      → p ≡ valueOr (numberReply lefts rights (x .0) (y .0)) first → q ≡ valueOr (numberReply lefts rights (x .1) (y .1)) second
+      → (p, q) ≡ meetReply (lanesOf (l ∷ rest) .tables) first second
   meets first second a b x y p q e f xe ye pe qe =
       let big = laneMeaning l .protocol .tables .size in
       let small = lanesOf rest .tables .size in
       let it = meet-joined (laneMeaning l .protocol) (lanesOf rest) (lane-lawful l) (lanes-of-lawful rest) first second (a .0) (a .1) (b .0) (b .1)
-        (sym (split first) ∙ e) (sym (split second) ∙ f) in
+      (sym (split first) ∙ e) (sym (split second) ∙ f) in
       let number : ℕ → ℕ → ℕ → ℕ = λ m n old. valueOr (numberReply big small m n) old in
       let resized : (m n old : ℕ) → valueOr (numberReply lefts rights m n) old ≡ number m n old =
-        λ m n old. ap (λ k. valueOr (numberReply k rights m n) old) sized ∙ ap (λ k. valueOr (numberReply big k m n) old) others in
+      λ m n old. ap (λ k. valueOr (numberReply k rights m n) old) sized ∙ ap (λ k. valueOr (numberReply big k m n) old) others in
       pairs
       (pe ∙ resized (x .0) (y .0) first ∙ ap (λ z. number (z .0) (y .0) first) xe
-        ∙ ap (λ z. number (meetReply (laneMeaning l .protocol .tables) (a .0) (b .0) .0) (z .0) first) ye ∙ it .0)
+      ∙ ap (λ z. number (meetReply (laneMeaning l .protocol .tables) (a .0) (b .0) .0) (z .0) first) ye ∙ it .0)
       (qe ∙ resized (x .1) (y .1) second ∙ ap (λ z. number (z .1) (y .1) second) xe
-        ∙ ap (λ z. number (meetReply (laneMeaning l .protocol .tables) (a .0) (b .0) .1) (z .1) second) ye ∙ it .1)
+      ∙ ap (λ z. number (meetReply (laneMeaning l .protocol .tables) (a .0) (b .0) .1) (z .1) second) ye ∙ it .1)
     where
-    pairs : {a b c d : ℕ} → a ≡ c → b ≡ d → _≡_ {A = ℕ × ℕ} (a, b) (c, d)
-    pairs e f = cc
+      pairs : {a b c d : ℕ} → a ≡ c → b ≡ d → _≡_ {A = ℕ × ℕ} (a, b) (c, d)
+      pairs e f = cc
 
   -- the answers of the halves of a known number
   pub answers : (state x y : ℕ) → halvesReply lefts rights state ≡ Some (x, y)
-    → (answerReply (laneMeaning l .protocol .tables) x ≡ laneMeaning l .protocol .tables .answer (leftOf (lanesOf rest .tables .size) state))
-    × (y < lanesOf rest .tables .size) × (y ≡ rightOf (lanesOf rest .tables .size) state)
+      → (answerReply (laneMeaning l .protocol .tables) x ≡ laneMeaning l .protocol .tables .answer (leftOf (lanesOf rest .tables .size) state))
+      × (y < lanesOf rest .tables .size) × (y ≡ rightOf (lanesOf rest .tables .size) state)
   answers state x y e =
       let big = laneMeaning l .protocol .tables .size in
       let small = lanesOf rest .tables .size in
       let it = halves-some big small state x y (sym (split state) ∙ e) in
-      let facts = halves-facts big small state (it .0) in
-      (ap (answerReply (laneMeaning l .protocol .tables)) (it .1) ∙ cond-true _ _ false (lt-ltb (state / small) big (facts .2)),
-       omega (arith, it .2, facts .3),
-       it .2)
+      let facts = halves-facts big small state (it .0) in (
+        ap (answerReply (laneMeaning l .protocol .tables)) (it .1) ∙ cond-true _ _ false (lt-ltb (state / small) big (facts .2)),
+        omega (arith, it .2, facts .3),
+        it .2,
+      )
 
   -- the answers as a number, and its bound
   pub numbers : (state x y b rest-number : ℕ) → halvesReply lefts rights state ≡ Some (x, y)
-    → b ≡ oneIf (answerReply (laneMeaning l .protocol .tables) x)
-    → (y < lanesOf rest .tables .size → rest-number ≡ answersNumber (lanesOf rest .tables .answer y))
-    → b + 2 * rest-number ≡ answersNumber (lanesOf (l ∷ rest) .tables .answer state)
+      → b ≡ oneIf (answerReply (laneMeaning l .protocol .tables) x)
+      → (y < lanesOf rest .tables .size → rest-number ≡ answersNumber (lanesOf rest .tables .answer y))
+      → b + 2 * rest-number ≡ answersNumber (lanesOf (l ∷ rest) .tables .answer state)
   numbers state x y b rest-number e be re =
       let it = answers state x y e in
       ap (λ n. n + 2 * rest-number) (be ∙ ap oneIf (it .0))
       ∙ ap (λ n. oneIf (laneMeaning l .protocol .tables .answer (leftOf (lanesOf rest .tables .size) state)) + 2 * n)
-        (re (it .1) ∙ ap (λ q. answersNumber (lanesOf rest .tables .answer q)) (it .2))
+      (re (it .1) ∙ ap (λ q. answersNumber (lanesOf rest .tables .answer q)) (it .2))
 
   pub number-below : (b rest-number n : ℕ) (answer : Bool) → b ≡ oneIf answer → rest-number < 2 ^ n → b + 2 * rest-number < 2 ^ suc n
   number-below b rest-number n answer e h = omega (arith, pow-suc 2 n, one-bit answer)
     where
-    one-bit : (answer : Bool) → oneIf answer ≤ 1
-    one-bit true = omega arith
-    one-bit false = omega arith
+      one-bit : (answer : Bool) → oneIf answer ≤ 1
+      one-bit true = omega arith
+      one-bit false = omega arith
 
   -- a number without halves is unknown
   pub unknown : (state : ℕ) → halvesReply lefts rights state ≡ None → state < lanesOf (l ∷ rest) .tables .size → ⊥
@@ -144,15 +145,15 @@ module _ (l : Lane) (rest : List Lane) (lefts rights : ℕ)
 
   -- the weights add up
   pub weighs : (v w : ℕ) → (lanesOf (l ∷ rest) .tables .size ≡ 0 → ⊥) → v ≡ laneMeaning l .protocol .weight → w ≡ lanesOf rest .weight
-    → v + w ≡ lanesOf (l ∷ rest) .weight
+      → v + w ≡ lanesOf (l ∷ rest) .weight
   weighs v w some e f =
       ap (λ n. n + w) e ∙ ap (λ n. laneMeaning l .protocol .weight + n) f
       ∙ sym (cond-false _ 0 (laneMeaning l .protocol .weight + lanesOf rest .weight) (ne-eqb (lanesOf (l ∷ rest) .tables .size) 0 some))
 
   -- the advice, by that on the first lane
   pub advises : (words : List ℕ) (unit : ℕ) (a b : Advice) → ltb 0 (length words) ≡ true → allowedUnit unit (lanesOf (l ∷ rest) .tables .size) ≡ true
-    → a ≡ adviceReply (laneMeaning l .protocol) words (unit * rights) → b ≡ adviceReply (lanesOf rest) words unit
-    → unlessSettled a b ≡ adviceReply (lanesOf (l ∷ rest)) words unit
+      → a ≡ adviceReply (laneMeaning l .protocol) words (unit * rights) → b ≡ adviceReply (lanesOf rest) words unit
+      → unlessSettled a b ≡ adviceReply (lanesOf (l ∷ rest)) words unit
   advises words unit a b some ok e f =
       ap (λ x. unlessSettled x b) (e ∙ ap (λ n. adviceReply (laneMeaning l .protocol) words (unit * n)) others)
       ∙ ap (unlessSettled (adviceReply (laneMeaning l .protocol) words (unit * lanesOf rest .tables .size))) f

@@ -39,9 +39,10 @@ pub split-known : (ls : List Lane) (state : ℕ) → state < sizeOf ls → (each
 split-known [] state h = (refl, omega arith)
 split-known (l ∷ ls) state h =
     let it = halves-facts (laneSize l) (sizeOf ls) state h in
-    let rest = split-known ls (rightOf (sizeOf ls) state) (it .3) in
-    (and-from _ _ (lt-ltb (leftOf (sizeOf ls) state) (laneSize l) (it .2)) (rest .0),
-     ap (joined (sizeOf ls) (leftOf (sizeOf ls) state)) (rest .1) ∙ div-add-mod' state (sizeOf ls))
+    let rest = split-known ls (rightOf (sizeOf ls) state) (it .3) in (
+      and-from _ _ (lt-ltb (leftOf (sizeOf ls) state) (laneSize l) (it .2)) (rest .0),
+      ap (joined (sizeOf ls) (leftOf (sizeOf ls) state)) (rest .1) ∙ div-add-mod' state (sizeOf ls),
+    )
 
 pub join-known : (ls : List Lane) (ns : List ℕ) → 0 < sizeOf ls → eachKnown ls ns ≡ true → (joinNumbers ls ns < sizeOf ls) × (splitNumber ls (joinNumbers ls ns) ≡ ns)
 join-known [] [] h e = (omega arith, refl)
@@ -52,11 +53,12 @@ join-known (l ∷ ls) (n ∷ ns) h e =
     let known = and-parts (ltb n (laneSize l)) (eachKnown ls ns) e in
     let first = ltb-true n (laneSize l) (known .0) in
     let rest = join-known ls ns (size .2) (known .1) in
-    let low = joinNumbers ls ns in
-    (subst (λ m. joined (sizeOf ls) n low < m) (sym (size .0)) (digits-lt first (rest .0)),
-     ap (λ x. x ∷ splitNumber ls (rightOf (sizeOf ls) (joined (sizeOf ls) n low))) (digits-div n (rest .0))
-     ∙ ap (λ x. n ∷ splitNumber ls x) (digits-mod n (rest .0))
-     ∙ ap (λ xs. n ∷ xs) (rest .1))
+    let low = joinNumbers ls ns in (
+      subst (λ m. joined (sizeOf ls) n low < m) (sym (size .0)) (digits-lt first (rest .0)),
+      ap (λ x. x ∷ splitNumber ls (rightOf (sizeOf ls) (joined (sizeOf ls) n low))) (digits-div n (rest .0))
+          ∙ ap (λ x. n ∷ splitNumber ls x) (digits-mod n (rest .0))
+          ∙ ap (λ xs. n ∷ xs) (rest .1),
+    )
 
 pub split-undone : (ls : List Lane) (state : ℕ) → state < sizeOf ls → numberReply ls (splitNumber ls state) ≡ Some state
 split-undone ls state h =
@@ -68,12 +70,12 @@ given : (ls : List Lane) (ns : List ℕ) (state : ℕ) → numberReply ls ns ≡
 given ls ns state e =
     ⊎-elim
     (λ known.
-      let two = and-parts (ltb 0 (sizeOf ls)) (eachKnown ls ns) known in
-      let value : _≡_ {A = Option ℕ} (Some (joinNumbers ls ns)) (Some state) = sym (cond-true _ _ None known) ∙ e in
-      (ltb-true 0 (sizeOf ls) (two .0), two .1, cc))
+    let two = and-parts (ltb 0 (sizeOf ls)) (eachKnown ls ns) known in
+    let value : _≡_ {A = Option ℕ} (Some (joinNumbers ls ns)) (Some state) = sym (cond-true _ _ None known) ∙ e in
+    (ltb-true 0 (sizeOf ls) (two .0), two .1, cc))
     (λ unknown.
-      let value : _≡_ {A = Option ℕ} None (Some state) = sym (cond-false _ _ None unknown) ∙ e in
-      let z : _≡_ {A = ℕ} 0 1 = cc in absurd (omega arith))
+    let value : _≡_ {A = Option ℕ} None (Some state) = sym (cond-false _ _ None unknown) ∙ e in
+    let z : _≡_ {A = ℕ} 0 1 = cc in absurd (omega arith))
     (cases-bool (ltb 0 (sizeOf ls) && eachKnown ls ns))
 
 pub number-undone : (ls : List Lane) (ns : List ℕ) (state : ℕ) → numberReply ls ns ≡ Some state → splitNumber ls state ≡ ns
@@ -84,7 +86,7 @@ number-undone ls ns state e =
 -- the steps of the code
 module _ (l : Lane) (rest : List Lane) (lefts rights : ℕ) (sized : lefts ≡ laneSize l) (others : rights ≡ sizeOf rest) where
   there : (state x y : ℕ) → halvesReply lefts rights state ≡ Some (x, y)
-    → (state < sizeOf (l ∷ rest)) × (x ≡ leftOf (sizeOf rest) state) × (y ≡ rightOf (sizeOf rest) state)
+      → (state < sizeOf (l ∷ rest)) × (x ≡ leftOf (sizeOf rest) state) × (y ≡ rightOf (sizeOf rest) state)
   there state x y e = halves-some (laneSize l) (sizeOf rest) state x y (sym (split l rest lefts rights sized others state) ∙ e)
 
   pub lane-here : (state x y : ℕ) → halvesReply lefts rights state ≡ Some (x, y) → Some x ≡ laneStateReply (l ∷ rest) 0 state
@@ -94,20 +96,20 @@ module _ (l : Lane) (rest : List Lane) (lefts rights : ℕ) (sized : lefts ≡ l
       ∙ sym (cond-true _ _ None (and-from _ _ (lt-ltb 0 (suc (length rest)) (omega arith)) (lt-ltb state (sizeOf (l ∷ rest)) (it .0))))
 
   pub lane-later : (place state x y : ℕ) → (place ≡ 0 → ⊥) → halvesReply lefts rights state ≡ Some (x, y)
-    → laneStateReply rest (place - 1) y ≡ laneStateReply (l ∷ rest) place state
+      → laneStateReply rest (place - 1) y ≡ laneStateReply (l ∷ rest) place state
   lane-later zero state x y h e = absurd (h refl)
   lane-later (suc k) state x y h e =
       let it = there state x y e in
       let facts = halves-facts (laneSize l) (sizeOf rest) state (it .0) in
       let k-is : suc k - 1 ≡ k = omega arith in
       let tests : (ltb k (length rest) && ltb (rightOf (sizeOf rest) state) (sizeOf rest)) ≡ (ltb (suc k) (suc (length rest)) && ltb state (sizeOf (l ∷ rest))) =
-        ⊎-elim
-        (λ less.
-          and-from _ _ (lt-ltb k (length rest) less) (lt-ltb (rightOf (sizeOf rest) state) (sizeOf rest) (facts .3))
-          ∙ sym (and-from _ _ (lt-ltb (suc k) (suc (length rest)) (omega arith)) (lt-ltb state (sizeOf (l ∷ rest)) (it .0))))
-        (λ more.
-          and-left _ _ (le-ltb k (length rest) more) ∙ sym (and-left _ _ (le-ltb (suc k) (suc (length rest)) (omega arith))))
-        (cases-lt k (length rest)) in
+      ⊎-elim
+      (λ less.
+      and-from _ _ (lt-ltb k (length rest) less) (lt-ltb (rightOf (sizeOf rest) state) (sizeOf rest) (facts .3))
+      ∙ sym (and-from _ _ (lt-ltb (suc k) (suc (length rest)) (omega arith)) (lt-ltb state (sizeOf (l ∷ rest)) (it .0))))
+      (λ more.
+      and-left _ _ (le-ltb k (length rest) more) ∙ sym (and-left _ _ (le-ltb (suc k) (suc (length rest)) (omega arith))))
+      (cases-lt k (length rest)) in
       ap (λ n. laneStateReply rest n y) k-is
       ∙ ap (laneStateReply rest k) (it .2)
       ∙ ap (λ b. cond b (Some (getD (splitNumber rest (rightOf (sizeOf rest) state)) k 0)) None) tests
@@ -115,7 +117,7 @@ module _ (l : Lane) (rest : List Lane) (lefts rights : ℕ) (sized : lefts ≡ l
   pub lane-none : (place state : ℕ) → halvesReply lefts rights state ≡ None → None ≡ laneStateReply (l ∷ rest) place state
   lane-none place state e =
       sym (cond-false _ _ None (and-right (ltb place (suc (length rest))) _
-        (halves-none (laneSize l) (sizeOf rest) state (sym (split l rest lefts rights sized others state) ∙ e))))
+      (halves-none (laneSize l) (sizeOf rest) state (sym (split l rest lefts rights sized others state) ∙ e))))
 
   -- the first number before that of the rest
   pub number-all : (n : ℕ) (ns : List ℕ) (low : ℕ) → numberReply rest ns ≡ Some low → halves.numberReply lefts rights n low ≡ numberReply (l ∷ rest) (n ∷ ns)
@@ -132,18 +134,18 @@ module _ (l : Lane) (rest : List Lane) (lefts rights : ℕ) (sized : lefts ≡ l
   number-none n ns e =
       ⊎-elim
       (λ known.
-        let two = and-parts (ltb 0 (sizeOf rest)) (eachKnown rest ns) known in
-        let value : _≡_ {A = Option ℕ} (Some (joinNumbers rest ns)) None = sym (cond-true _ _ None known) ∙ e in
-        let z : _≡_ {A = ℕ} 0 1 = cc in absurd (omega arith))
+      let two = and-parts (ltb 0 (sizeOf rest)) (eachKnown rest ns) known in
+      let value : _≡_ {A = Option ℕ} (Some (joinNumbers rest ns)) None = sym (cond-true _ _ None known) ∙ e in
+      let z : _≡_ {A = ℕ} 0 1 = cc in absurd (omega arith))
       (λ unknown.
-        sym (cond-false _ _ None
-          (⊎-elim
-            (λ empty. ⊎-elim
-              (λ some. absurd (both-ways (ltb 0 (sizeOf rest)) empty (lt-ltb 0 (sizeOf rest) (parts l rest (ltb-true 0 (sizeOf (l ∷ rest)) some) .2))))
-              (λ none. and-left _ _ none)
-              (cases-bool (ltb 0 (sizeOf (l ∷ rest)))))
-            (λ odd. and-right (ltb 0 (sizeOf (l ∷ rest))) _ (and-right (ltb n (laneSize l)) _ odd))
-            (and-cases (ltb 0 (sizeOf rest)) (eachKnown rest ns) unknown))))
+      sym (cond-false _ _ None
+      (⊎-elim
+      (λ empty. ⊎-elim
+      (λ some. absurd (both-ways (ltb 0 (sizeOf rest)) empty (lt-ltb 0 (sizeOf rest) (parts l rest (ltb-true 0 (sizeOf (l ∷ rest)) some) .2))))
+      (λ none. and-left _ _ none)
+      (cases-bool (ltb 0 (sizeOf (l ∷ rest)))))
+      (λ odd. and-right (ltb 0 (sizeOf (l ∷ rest))) _ (and-right (ltb n (laneSize l)) _ odd))
+      (and-cases (ltb 0 (sizeOf rest)) (eachKnown rest ns) unknown))))
       (cases-bool (ltb 0 (sizeOf rest) && eachKnown rest ns))
 
 -- the first number and the rest

@@ -133,13 +133,7 @@ pub(crate) fn number_of(lanes: &[Lane], numbers: &[u32]) -> Option<u32>
     ensures { λ r. ⌜ r ≡ numberReply (now (lanes .entry)) (now (numbers .entry)) ⌝ }
 {
     match lanes {
-        [] => {
-            if numbers.is_empty() {
-                Some(0)
-            } else {
-                None
-            }
-        }
+        [] => { if numbers.is_empty() { Some(0) } else { None } }
         [lane, rest @ ..] => match numbers {
             [] => None,
             [first, others @ ..] => match number_of(rest, others) {

@@ -127,7 +127,8 @@ pub impl Question for Compiled as CompiledQuestion {
     }
 
     fn answer(&self, state: u32) -> bool {
-        u64::from(state) < self.size() && bit_at(self.table, joined::answers_of(self.lanes(), state))
+        u64::from(state) < self.size()
+            && bit_at(self.table, joined::answers_of(self.lanes(), state))
     }
 
     fn meet(&self, first: u32, second: u32) -> (u32, u32) {

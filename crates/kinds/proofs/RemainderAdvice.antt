@@ -19,9 +19,8 @@ use Rattle.question.proofs.Replies.{advice-read}
 use Rattle.kinds.proofs.Led.{led-by, fit-here, fit-later, found-within, found-some, read-there}
 
 module _ (ks : List ℤ) (m c : ℕ) (words : List ℕ) (unit size u s leader : ℕ)
-  (sized : size ≡ 4 * m) (ok : true ≡ allowedUnit unit size) (same : (u ≡ unit) × (s ≡ size))
-  (leads : Some leader ≡ lowestRead (λ _ state. leadPart state) u s words) where
-
+    (sized : size ≡ 4 * m) (ok : true ≡ allowedUnit unit size) (same : (u ≡ unit) × (s ≡ size))
+    (leads : Some leader ≡ lowestRead (λ _ state. leadPart state) u s words) where
   abbrev states : List ℕ
   states = map (stateRead u s) words
 
@@ -41,12 +40,12 @@ module _ (ks : List ℤ) (m c : ℕ) (words : List ℕ) (unit size u s leader : 
       ∙ led-by (partnerRules c tag) (length states) leader _ leads
 
   pub merges : (partner : ℕ) → Some partner ≡ lowestRead (λ place state. other leader (λ _. leadPart state) place) u s words
-    → adviceReply (remainderProtocol ks m c) words unit ≡ Meet leader partner
+      → adviceReply (remainderProtocol ks m c) words unit ≡ Meet leader partner
   merges partner e = by-leader ∙ ap (paired (Some leader)) (fit-here merge (correct ∷ []) (length states) partner e)
 
   module _ (alone : None ≡ lowestRead (λ place state. other leader (λ _. leadPart state) place) u s words)
-    (read : ℕ) (there : read ≡ stateRead u s (getD words leader 0)) (found : Option ℕ)
-    (e : found ≡ lowestRead (λ place state. other leader (λ _. differs (eqb (read / 4) c) (bitPart state)) place) u s words) where
+      (read : ℕ) (there : read ≡ stateRead u s (getD words leader 0)) (found : Option ℕ)
+      (e : found ≡ lowestRead (λ place state. other leader (λ _. differs (eqb (read / 4) c) (bitPart state)) place) u s words) where
     pub corrects : adviceReply (remainderProtocol ks m c) words unit ≡ paired (Some leader) found
     corrects =
         let here : read ≡ stateAt states leader = there ∙ sym (read-there u s words leader (found-within (λ _. leadPart) u s words leader leads)) in
@@ -54,6 +53,6 @@ module _ (ks : List ℤ) (m c : ℕ) (words : List ℕ) (unit size u s leader : 
         by-leader
         ∙ ap (paired (Some leader)) (fit-later merge (correct ∷ []) (length states) alone ∙ only (rule (stateAt states leader)) found (e ∙ ap rule here))
       where
-      only : (o p : Option ℕ) → p ≡ o → elim o [ Some k ↦ Some k | None ↦ None ] ≡ p
-      only (Some k) p e = sym e
-      only None p e = sym e
+        only : (o p : Option ℕ) → p ≡ o → elim o [ Some k ↦ Some k | None ↦ None ] ≡ p
+        only (Some k) p e = sym e
+        only None p e = sym e

@@ -34,10 +34,10 @@ same-four F a a′ b b′ c c′ v v′ e f g h = cc
 
 -- what the code's digit, leader and tests are
 module _ (ks : List ℤ) (bound : ℤ) (words : List ℕ) (unit u z s here : ℕ) (v : ℤ)
-  (ok : allowedUnit unit (4 * (2 * spanOf ks bound + 1)) ≡ true)
-  (units : u ≡ unit) (sizes : z ≡ 4 * (2 * spanOf ks bound + 1)) (wide : s ≡ spanOf ks bound)
-  (leads : Some here ≡ lowestRead (λ _ state. leadPart state) u z words)
-  (holds : v ≡ fieldsOf s (stateRead u z (getD words here 0)) .value) where
+    (ok : allowedUnit unit (4 * (2 * spanOf ks bound + 1)) ≡ true)
+    (units : u ≡ unit) (sizes : z ≡ 4 * (2 * spanOf ks bound + 1)) (wide : s ≡ spanOf ks bound)
+    (leads : Some here ≡ lowestRead (λ _ state. leadPart state) u z words)
+    (holds : v ≡ fieldsOf s (stateRead u z (getD words here 0)) .value) where
   abbrev size : ℕ
   size = 4 * (2 * spanOf ks bound + 1)
 
@@ -92,7 +92,7 @@ module _ (ks : List ℤ) (bound : ℤ) (words : List ℕ) (unit u z s here : ℕ
   by-first k e = sym (reply ∙ ap (paired (Some here)) (fit-here first (second ∷ third ∷ []) n k (e ∙ same-test opposed)))
 
   pub by-second : (k : ℕ) → None ≡ lowestRead (opposed s v here) u z words → Some k ≡ lowestRead (unjoined s v here) u z words
-    → Meet here k ≡ adviceReply (thresholdProtocol ks bound) words unit
+      → Meet here k ≡ adviceReply (thresholdProtocol ks bound) words unit
   by-second k none e = sym (reply ∙ ap (paired (Some here)) (not-first none ∙ fit-here second (third ∷ []) n k (e ∙ same-test unjoined)))
 
   -- the third test has the bound after a cast
@@ -100,11 +100,11 @@ module _ (ks : List ℤ) (bound : ℤ) (words : List ℕ) (unit u z s here : ℕ
   same-third b e = ap (λ x. lowestRead (unheardBy x s v here) u z words) e ∙ same-test (unheardBy bound)
 
   pub by-third : (b : ℤ) → b ≡ bound → (k : ℕ) → None ≡ lowestRead (opposed s v here) u z words → None ≡ lowestRead (unjoined s v here) u z words
-    → Some k ≡ lowestRead (unheardBy b s v here) u z words → Meet here k ≡ adviceReply (thresholdProtocol ks bound) words unit
+      → Some k ≡ lowestRead (unheardBy b s v here) u z words → Meet here k ≡ adviceReply (thresholdProtocol ks bound) words unit
   by-third b same k none joined e =
       sym (reply ∙ ap (paired (Some here)) (not-first none ∙ not-second joined ∙ fit-here third [] n k (e ∙ same-third b same)))
 
   pub by-none : (b : ℤ) → b ≡ bound → None ≡ lowestRead (opposed s v here) u z words → None ≡ lowestRead (unjoined s v here) u z words
-    → None ≡ lowestRead (unheardBy b s v here) u z words → Settled ≡ adviceReply (thresholdProtocol ks bound) words unit
+      → None ≡ lowestRead (unheardBy b s v here) u z words → Settled ≡ adviceReply (thresholdProtocol ks bound) words unit
   by-none b same none joined heard =
       sym (reply ∙ ap (paired (Some here)) (not-first none ∙ not-second joined ∙ fit-later third [] n (heard ∙ same-third b same)))

@@ -111,15 +111,15 @@ pairs : {a b c d : ℕ} → a ≡ c → b ≡ d → _≡_ {A = ℕ × ℕ} (a, b
 pairs e f = cc
 
 same-number : (s : ℕ) (lead : Bool) (k k′ bound bound′ v v′ : ℤ) → k′ ≡ k → bound′ ≡ bound → v′ ≡ v
-  → numberOf s (record { lead = lead; bit = ltZ k′ bound′; value = v′ }) ≡ numberOf s (record { lead = lead; bit = ltZ k bound; value = v })
+    → numberOf s (record { lead = lead; bit = ltZ k′ bound′; value = v′ }) ≡ numberOf s (record { lead = lead; bit = ltZ k bound; value = v })
 same-number s lead k k′ bound bound′ v v′ e f g = cc
 
 -- the two numbers of a meeting where one leads
 pub joined-numbers : (s : ℕ) (bound bound′ : ℤ) (a b : Fields ℤ) (k k′ rest : ℤ) (x y : ℕ)
-  → (a .lead || b .lead) ≡ true → k ≡ held s ((a .value) +ℤ (b .value)) → k′ ≡ k → bound′ ≡ bound → rest ≡ ((a .value) +ℤ (b .value)) -ℤ k
-  → x ≡ numberOf s (record { lead = true; bit = ltZ k′ bound′; value = k′ })
-  → y ≡ numberOf s (record { lead = false; bit = ltZ k′ bound′; value = rest })
-  → _≡_ {A = ℕ × ℕ} (x, y) (numberOf s (metFields s bound a b .0), numberOf s (metFields s bound a b .1))
+    → (a .lead || b .lead) ≡ true → k ≡ held s ((a .value) +ℤ (b .value)) → k′ ≡ k → bound′ ≡ bound → rest ≡ ((a .value) +ℤ (b .value)) -ℤ k
+    → x ≡ numberOf s (record { lead = true; bit = ltZ k′ bound′; value = k′ })
+    → y ≡ numberOf s (record { lead = false; bit = ltZ k′ bound′; value = rest })
+    → _≡_ {A = ℕ × ℕ} (x, y) (numberOf s (metFields s bound a b .0), numberOf s (metFields s bound a b .1))
 joined-numbers s bound bound′ a b k k′ rest x y leads kept cast cast′ left one two =
     let sum : ℤ = (a .value) +ℤ (b .value) in
     let kept-first : Fields ℤ = record { lead = true; bit = ltZ (held s sum) bound; value = held s sum } in

@@ -77,7 +77,10 @@ impl Remainder {
     pub fn new(coefficients: [i32; SYMBOLS], modulus: u32, residue: u32) -> Result<Remainder, Fault>
         ensures { λ r. ⌜ elim r [ Ok q ↦ (verdict (numbersChecks (remainderFits coefficients modulus residue)) ≡ Ok tt) × (q .coefficients ≡ coefficients) × (q .modulus ≡ modulus) × (q .residue ≡ residue) | Err f ↦ verdict (numbersChecks (remainderFits coefficients modulus residue)) ≡ Err f ] ⌝ }
     {
-        let fit = coefficients_fit(&coefficients) && 2 <= modulus && modulus <= 999 && residue < modulus;
+        let fit = coefficients_fit(&coefficients)
+            && 2 <= modulus
+            && modulus <= 999
+            && residue < modulus;
         Refusal::NumberRange.unless(fit, 0)?;
         Ok(Remainder {
             coefficients,

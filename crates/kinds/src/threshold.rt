@@ -114,7 +114,11 @@ impl Threshold {
         let fit = coefficients_fit(&coefficients) && bound.unsigned_abs() <= 999;
         Refusal::NumberRange.unless(fit, 0)?;
         let span = largest_of(&coefficients).max(bound.unsigned_abs() + 1);
-        Ok(Threshold { coefficients, bound, span })
+        Ok(Threshold {
+            coefficients,
+            bound,
+            span,
+        })
     }
 
     // The fields in a state number; none for an unknown one.
@@ -163,8 +167,16 @@ impl Threshold {
         let sum = a.value + b.value;
         let kept = sum.clamp(-span, span);
         let bit = kept < self.bound;
-        let first = Fields { lead: true, bit, value: kept };
-        let second = Fields { lead: false, bit, value: sum - kept };
+        let first = Fields {
+            lead: true,
+            bit,
+            value: kept,
+        };
+        let second = Fields {
+            lead: false,
+            bit,
+            value: sum - kept,
+        };
         (self.packed(first), self.packed(second))
     }
 }
@@ -187,7 +199,11 @@ pub impl Question for Threshold as ThresholdQuestion {
         }
         let value = self.coefficients[symbol];
         let bit = value < self.bound;
-        self.packed(Fields { lead: true, bit, value })
+        self.packed(Fields {
+            lead: true,
+            bit,
+            value,
+        })
     }
 
     fn answer(&self, state: u32) -> bool {

@@ -75,9 +75,9 @@ lowest-is p n k h y before =
     let it = lowest-some p n (some .0) (some .1) in
     ⊎-elim (λ e. some .1 ∙ ap (λ i. Some i) (sym e))
     (λ ne. absurd (⊎-elim
-        (λ less. both-ways (p k) (it .2 k less) y)
-        (λ more. both-ways (p (some .0)) (before (some .0) (omega arith)) (it .1))
-        (cases-lt k (some .0))))
+    (λ less. both-ways (p k) (it .2 k less) y)
+    (λ more. both-ways (p (some .0)) (before (some .0) (omega arith)) (it .1))
+    (cases-lt k (some .0))))
     (cases-eq k (some .0))
 
 pub lowest-ext : (p q : ℕ → Bool) (n : ℕ) → ((k : ℕ) → k < n → p k ≡ q k) → lowest p n ≡ lowest q n
@@ -88,8 +88,8 @@ lowest-ext p q (suc n) same =
     let here : p n ≡ q n = same n (omega arith) in
     ap (λ (w : Option ℕ × Bool). elim (w .0) [ Some k ↦ Some k | None ↦ cond (w .1) (Some n) None ]) (pairs before here)
   where
-  pairs : {a b : Option ℕ} {x y : Bool} → a ≡ b → x ≡ y → _≡_ {A = Option ℕ × Bool} (a, x) (b, y)
-  pairs e f = cc
+    pairs : {a b : Option ℕ} {x y : Bool} → a ≡ b → x ≡ y → _≡_ {A = Option ℕ × Bool} (a, x) (b, y)
+    pairs e f = cc
 
 pub length-meeting : (meet : ℕ → ℕ → ℕ × ℕ) (qs : List ℕ) (i j : ℕ) → length (meeting meet qs i j) ≡ length qs
 length-meeting meet qs i j = length-set _ j _ ∙ length-set qs i _
@@ -147,12 +147,12 @@ tally-falls p q zero i h fails passes more = absurd (omega arith)
 tally-falls p q (suc n) i h fails passes more =
     ⊎-elim
     (λ e.
-      let pn : p n ≡ false = ap p (sym e) ∙ fails in
-      let qn : q n ≡ true = ap q (sym e) ∙ passes in
-      let before = tally-grows p q n (λ k h. more k (omega arith)) in
-      simp (pn, qn) (omega arith))
+    let pn : p n ≡ false = ap p (sym e) ∙ fails in
+    let qn : q n ≡ true = ap q (sym e) ∙ passes in
+    let before = tally-grows p q n (λ k h. more k (omega arith)) in
+    simp (pn, qn) (omega arith))
     (λ ne.
-      omega (arith, tally-falls p q n i (omega arith) fails passes (λ k h. more k (omega arith)), one-grows (p n) (q n) (more n (omega arith))))
+    omega (arith, tally-falls p q n i (omega arith) fails passes (λ k h. more k (omega arith)), one-grows (p n) (q n) (more n (omega arith))))
     (cases-eq i n)
 
 pub tally-but : (p : ℕ → Bool) (n i : ℕ) → i < n → p i ≡ false → tally p n ≤ n - 1
@@ -184,10 +184,10 @@ total-one f g zero i h same = absurd (omega arith)
 total-one f g (suc n) i h same =
     ⊎-elim
     (λ e.
-      let before = total-ext g f n (λ k b. same k (λ z. omega arith)) in
-      let fe : f i ≡ f n = ap f e in
-      let ge : g i ≡ g n = ap g e in
-      omega arith)
+    let before = total-ext g f n (λ k b. same k (λ z. omega arith)) in
+    let fe : f i ≡ f n = ap f e in
+    let ge : g i ≡ g n = ap g e in
+    omega arith)
     (λ ne. omega (arith, total-one f g n i (omega arith) same, same n (λ z. ne (sym z))))
     (cases-eq i n)
 
@@ -199,8 +199,8 @@ total-two f g n i j apart same =
     let off : (k : ℕ) → (k ≡ i → ⊥) → h k ≡ f k = λ k ne. cond-false (eqb k i) (g i) (f k) (ne-eqb k i ne) in
     let one = total-one f h n i (apart .first-within) off in
     let two = total-one h g n j (apart .second-within)
-      (λ k ne. ⊎-elim
-        (λ e. ap g e ∙ sym at-i ∙ ap h (sym e))
-        (λ ni. same k ni ne ∙ sym (off k ni))
-        (cases-eq k i)) in
+    (λ k ne. ⊎-elim
+    (λ e. ap g e ∙ sym at-i ∙ ap h (sym e))
+    (λ ni. same k ni ne ∙ sym (off k ni))
+    (cases-eq k i)) in
     omega (arith, one, two, at-i, off j (λ e. apart .differ (sym e)))

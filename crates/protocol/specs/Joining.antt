@@ -10,14 +10,16 @@ use Rattle.protocol.specs.Protocols.{Tables, Protocol, Meaning}
 -- the same protocol with another answer, computed from its own
 abbrev pub answered : {A B : Type 0} → (A → B) → Protocol A → Protocol B
 answered f p = record {
-    tables = record {
-      size = p .tables .size;
-      start = p .tables .start;
-      answer = λ state. f (p .tables .answer state);
-      meet = p .tables .meet };
-    weight = p .weight;
-    next = p .next;
-    truth = λ counts. f (p .truth counts) }
+  tables = record {
+    size = p .tables .size;
+    start = p .tables .start;
+    answer = λ state. f (p .tables .answer state);
+    meet = p .tables .meet;
+  };
+  weight = p .weight;
+  next = p .next;
+  truth = λ counts. f (p .truth counts);
+}
 
 -- a number of states that fits words of 32 bits, else 0
 abbrev pub bounded : ℕ → ℕ
@@ -50,20 +52,23 @@ pair l r =
         start = λ symbol. joined base (l .tables .start symbol) (r .tables .start symbol);
         answer = λ state. (l .tables .answer (leftOf base state), r .tables .answer (rightOf base state));
         meet = λ a b.
-          let left : ℕ × ℕ = l .tables .meet (leftOf base a) (leftOf base b) in
-          let right : ℕ × ℕ = r .tables .meet (rightOf base a) (rightOf base b) in
-          (joined base (left .0) (right .0), joined base (left .1) (right .1)) };
+            let left : ℕ × ℕ = l .tables .meet (leftOf base a) (leftOf base b) in
+            let right : ℕ × ℕ = r .tables .meet (rightOf base a) (rightOf base b) in
+            (joined base (left .0) (right .0), joined base (left .1) (right .1));
+      };
       weight = cond (eqb size 0) 0 (l .weight + r .weight);
       next = λ states. unlessSettled (l .next (map (leftOf base) states)) (r .next (map (rightOf base) states));
-      truth = λ counts. (l .truth counts, r .truth counts) }
+      truth = λ counts. (l .truth counts, r .truth counts);
+    }
 
 -- the protocol of one state, always settled: no lane at all
 abbrev pub none : Protocol (List Bool)
 none = record {
-    tables = record { size = 1; start = λ _. 0; answer = λ _. []; meet = λ a b. (a, b) };
-    weight = 0;
-    next = λ _. Settled;
-    truth = λ _. [] }
+  tables = record { size = 1; start = λ _. 0; answer = λ _. []; meet = λ a b. (a, b) };
+  weight = 0;
+  next = λ _. Settled;
+  truth = λ _. [];
+}
 
 -- lanes in one number, the first highest; the answer is the list of theirs
 abbrev pub lanes : List (Protocol Bool) → Protocol (List Bool)
@@ -91,8 +96,9 @@ negated m = record { kind = 78; protocol = answered not (m .protocol) }
 -- Both (B): the answer is bit 2 × left + right of the rule
 abbrev pub both : ℕ → Meaning → Meaning → Meaning
 both rule l r = record {
-    kind = 66;
-    protocol = answered (λ b. bitAt rule (2 * oneIf (b .0) + oneIf (b .1))) (pair (l .protocol) (r .protocol)) }
+  kind = 66;
+  protocol = answered (λ b. bitAt rule (2 * oneIf (b .0) + oneIf (b .1))) (pair (l .protocol) (r .protocol));
+}
 
 -- compiled (C): lanes and a truth table
 abbrev pub compiled : List (Protocol Bool) → ℕ → Meaning

@@ -21,15 +21,15 @@ pub record Readings (symbols : List Symbol) : Type 0 where
 pub data Reached (start : ℕ → ℕ) (meet : ℕ → ℕ → ℕ × ℕ) (symbols : List Symbol) : List ℕ → Type 0 where
   started : Reached start meet symbols (map (λ s. start (s .0)) symbols)
   met : {states : List ℕ} → Reached start meet symbols states
-    → (first second : ℕ) → Apart (length symbols) first second
-    → Reached start meet symbols (meeting meet states first second)
+      → (first second : ℕ) → Apart (length symbols) first second
+      → Reached start meet symbols (meeting meet states first second)
 
 -- following the advice from these states settles a load of n tags after at most k meetings, each of two different places of the load
 pub data Settles (next : List ℕ → Advice) (meet : ℕ → ℕ → ℕ × ℕ) (n : ℕ) : List ℕ → ℕ → Type 0 where
   done : {states : List ℕ} {k : ℕ} → next states ≡ Settled → Settles next meet n states k
   step : {states : List ℕ} {k : ℕ} (first second : ℕ) → next states ≡ Meet first second → Apart n first second
-    → Settles next meet n (meeting meet states first second) k
-    → Settles next meet n states (suc k)
+      → Settles next meet n (meeting meet states first second) k
+      → Settles next meet n states (suc k)
 
 -- what is owed wherever the meetings of a load with these symbols have left it
 pub record Stable {A : Type 0} (p : Protocol A) (symbols : List Symbol) (states : List ℕ) : Type 0 where
@@ -37,10 +37,10 @@ pub record Stable {A : Type 0} (p : Protocol A) (symbols : List Symbol) (states 
   pub settles : Settles (p .next) (p .tables .meet) (length symbols) states (p .weight * (length symbols - 1))
   -- where the load is settled, every tag's answer is the truth of the counts at the start
   pub right : p .next states ≡ Settled → (place : ℕ) → place < length symbols
-    → p .tables .answer (stateAt states place) ≡ p .truth (countsOf symbols)
+      → p .tables .answer (stateAt states place) ≡ p .truth (countsOf symbols)
   -- where the load is settled, it is settled after any one meeting
   pub stays : p .next states ≡ Settled → (first second : ℕ) → Apart (length symbols) first second
-    → p .next (meeting (p .tables .meet) states first second) ≡ Settled
+      → p .next (meeting (p .tables .meet) states first second) ≡ Settled
 
 -- the laws of a protocol. They speak of states: what is owed of words and a unit follows, since the advice on words is that on the states read in them
 pub record Lawful {A : Type 0} (p : Protocol A) : Type 0 where
@@ -50,7 +50,7 @@ pub record Lawful {A : Type 0} (p : Protocol A) : Type 0 where
   pub start-known : (symbol : ℕ) → symbol < 8 → 0 < p .tables .size → p .tables .start symbol < p .tables .size
   -- known states leave a meeting as known states
   pub meet-known : (first second : ℕ) → first < p .tables .size → second < p .tables .size
-    → (p .tables .meet first second .0 < p .tables .size) × (p .tables .meet first second .1 < p .tables .size)
+      → (p .tables .meet first second .0 < p .tables .size) × (p .tables .meet first second .1 < p .tables .size)
   -- wherever the meetings of a load leave it
   pub stable : (symbols : List Symbol) (states : List ℕ) → 0 < p .tables .size → Readings symbols
-    → Reached (p .tables .start) (p .tables .meet) symbols states → Stable p symbols states
+      → Reached (p .tables .start) (p .tables .meet) symbols states → Stable p symbols states

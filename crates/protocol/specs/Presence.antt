@@ -22,14 +22,16 @@ nextOf states =
 
 abbrev pub presenceProtocol : ℕ → Protocol Bool
 presenceProtocol mask = record {
-    tables = record {
-      size = 2;
-      start = λ symbol. oneIf (bitAt mask symbol);
-      answer = λ state. eqb state 1;
-      meet = λ a b. (max a b, max a b) };
-    weight = 1;
-    next = nextOf;
-    truth = presentFrom mask 0 }
+  tables = record {
+    size = 2;
+    start = λ symbol. oneIf (bitAt mask symbol);
+    answer = λ state. eqb state 1;
+    meet = λ a b. (max a b, max a b);
+  };
+  weight = 1;
+  next = nextOf;
+  truth = presentFrom mask 0;
+}
 
 abbrev pub presence : ℕ → Meaning
 presence mask = record { kind = 80; protocol = presenceProtocol mask }

@@ -52,16 +52,18 @@ startFields coefficients modulus residue symbol =
 
 abbrev pub remainderProtocol : List ℤ → ℕ → ℕ → Protocol Bool
 remainderProtocol coefficients modulus residue = record {
-    tables = record {
-      size = 4 * modulus;
-      start = λ symbol. numberOf (startFields coefficients modulus residue symbol);
-      answer = λ state. fieldsOf state .bit;
-      meet = λ a b.
+  tables = record {
+    size = 4 * modulus;
+    start = λ symbol. numberOf (startFields coefficients modulus residue symbol);
+    answer = λ state. fieldsOf state .bit;
+    meet = λ a b.
         let left : Fields ℕ × Fields ℕ = metFields modulus residue (fieldsOf a) (fieldsOf b) in
-        (numberOf (left .0), numberOf (left .1)) };
-    weight = 2;
-    next = nextOf residue;
-    truth = λ counts. eqb (natAbs (weighed coefficients counts -ℤ pos residue) % modulus) 0 }
+        (numberOf (left .0), numberOf (left .1));
+  };
+  weight = 2;
+  next = nextOf residue;
+  truth = λ counts. eqb (natAbs (weighed coefficients counts -ℤ pos residue) % modulus) 0;
+}
 
 abbrev pub remainder : List ℤ → ℕ → ℕ → Meaning
 remainder coefficients modulus residue = record { kind = 82; protocol = remainderProtocol coefficients modulus residue }

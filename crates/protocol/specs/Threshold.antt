@@ -28,7 +28,10 @@ numberOf s f = packed (natAbs (f .value +ℤ pos s)) (f .lead) (f .bit)
 -- number to fields
 abbrev pub fieldsOf : ℕ → ℕ → Fields ℤ
 fieldsOf s state = record {
-    lead = leadPart state; bit = bitPart state; value = pos (valuePart state) -ℤ pos s }
+  lead = leadPart state;
+  bit = bitPart state;
+  value = pos (valuePart state) -ℤ pos s;
+}
 
 -- a number held between -s and s
 abbrev pub held : ℕ → ℤ → ℤ
@@ -83,11 +86,13 @@ thresholdProtocol coefficients bound =
         start = λ symbol. numberOf s (startFields coefficients bound symbol);
         answer = λ state. fieldsOf s state .bit;
         meet = λ a b.
-          let left : Fields ℤ × Fields ℤ = metFields s bound (fieldsOf s a) (fieldsOf s b) in
-          (numberOf s (left .0), numberOf s (left .1)) };
+            let left : Fields ℤ × Fields ℤ = metFields s bound (fieldsOf s a) (fieldsOf s b) in
+            (numberOf s (left .0), numberOf s (left .1));
+      };
       weight = 2;
       next = nextOf s bound;
-      truth = λ counts. ltZ (weighed coefficients counts) bound }
+      truth = λ counts. ltZ (weighed coefficients counts) bound;
+    }
 
 abbrev pub threshold : List ℤ → ℤ → Meaning
 threshold coefficients bound = record { kind = 84; protocol = thresholdProtocol coefficients bound }

@@ -84,7 +84,8 @@ pub impl<L: Question, R: Question> Question for Both<L, R> as BothQuestion {
     }
 
     fn start(&self, symbol: Symbol) -> u32 {
-        self.number(self.left.start(symbol), self.right.start(symbol)).unwrap_or(0)
+        self.number(self.left.start(symbol), self.right.start(symbol))
+            .unwrap_or(0)
     }
 
     fn answer(&self, state: u32) -> bool {
@@ -101,7 +102,10 @@ pub impl<L: Question, R: Question> Question for Both<L, R> as BothQuestion {
         };
         let left = self.left.meet(a.0, b.0);
         let right = self.right.meet(a.1, b.1);
-        (self.number(left.0, right.0).unwrap_or(first), self.number(left.1, right.1).unwrap_or(second))
+        (
+            self.number(left.0, right.0).unwrap_or(first),
+            self.number(left.1, right.1).unwrap_or(second),
+        )
     }
 
     fn weight(&self) -> u64 {

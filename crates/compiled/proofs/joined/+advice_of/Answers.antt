@@ -17,7 +17,7 @@ mul-unit t c =
     let unit = c .args .unit in
     let shape = first-and-rest ls lane (search needs) (c .lane-item .is) in
     let it = unit-fits lane (tail ls) _ (c .size-of-in-len1-up .result) refl (c .size-of-in-len1-up .ensures) unit
-      (ap (λ ls. allowedUnit unit (lanesOf ls .tables .size)) (sym shape) ∙ ap (allowedUnit unit) (sym (c .size-of .ensures)) ∙ sym (c .if-not-allowed .ensures tt)) in
+    (ap (λ ls. allowedUnit unit (lanesOf ls .tables .size)) (sym shape) ∙ ap (allowedUnit unit) (sym (c .size-of .ensures)) ∙ sym (c .if-not-allowed .ensures tt)) in
     record { fits = omega arith }
 
 pub returns-in-empty : need.returns-in-empty
@@ -27,7 +27,7 @@ returns-in-empty t c =
     let unit = c .args .unit in
     let shape = no-item ls (search needs) in
     none-advice words unit (nonempty words (c .if-is-empty .ensures tt))
-      (ap (λ ls. allowedUnit unit (lanesOf ls .tables .size)) (sym shape) ∙ ap (allowedUnit unit) (sym (c .size-of .ensures)) ∙ sym (c .if-not-allowed .ensures tt))
+    (ap (λ ls. allowedUnit unit (lanesOf ls .tables .size)) (sym shape) ∙ ap (allowedUnit unit) (sym (c .size-of .ensures)) ∙ sym (c .if-not-allowed .ensures tt))
     ∙ ap (λ ls. adviceReply (lanesOf ls) words unit) (sym shape)
 
 pub returns-in-Settled : need.returns-in-Settled
@@ -38,9 +38,9 @@ returns-in-Settled t c =
     let lane = c .lane-item .result in
     let shape = first-and-rest ls lane (search needs) (c .lane-item .is) in
     advises lane (tail ls) _ (c .size-of-in-len1-up .result) refl (c .size-of-in-len1-up .ensures) words unit Settled (c .advice-of .result)
-      (nonempty words (c .if-is-empty .ensures tt))
-      (ap (λ ls. allowedUnit unit (lanesOf ls .tables .size)) (sym shape) ∙ ap (allowedUnit unit) (sym (c .size-of .ensures)) ∙ sym (c .if-not-allowed .ensures tt))
-      (c .in-Settled .ensures tt) (c .advice-of .ensures)
+    (nonempty words (c .if-is-empty .ensures tt))
+    (ap (λ ls. allowedUnit unit (lanesOf ls .tables .size)) (sym shape) ∙ ap (allowedUnit unit) (sym (c .size-of .ensures)) ∙ sym (c .if-not-allowed .ensures tt))
+    (c .in-Settled .ensures tt) (c .advice-of .ensures)
     ∙ ap (λ ls. adviceReply (lanesOf ls) words unit) (sym shape)
 
 pub returns-in-rest : need.returns-in-rest
@@ -52,7 +52,7 @@ returns-in-rest t c =
     let shape = first-and-rest ls lane (search needs) (c .lane-item .is) in
     sym (unsettled (c .advice .result) (adviceReply (lanesOf (tail ls)) words unit) (c .in-rest .not-Settled))
     ∙ advises lane (tail ls) _ (c .size-of-in-len1-up .result) refl (c .size-of-in-len1-up .ensures) words unit (c .advice .result) _
-      (nonempty words (c .if-is-empty .ensures tt))
-      (ap (λ ls. allowedUnit unit (lanesOf ls .tables .size)) (sym shape) ∙ ap (allowedUnit unit) (sym (c .size-of .ensures)) ∙ sym (c .if-not-allowed .ensures tt))
-      (c .advice .ensures) refl
+    (nonempty words (c .if-is-empty .ensures tt))
+    (ap (λ ls. allowedUnit unit (lanesOf ls .tables .size)) (sym shape) ∙ ap (allowedUnit unit) (sym (c .size-of .ensures)) ∙ sym (c .if-not-allowed .ensures tt))
+    (c .advice .ensures) refl
     ∙ ap (λ ls. adviceReply (lanesOf ls) words unit) (sym shape)

@@ -22,7 +22,8 @@ returns-in-empty t c =
     let shape = no-item (c .args .lanes .now) (search needs) in
     record {
       value = λ h. ap (λ ls. answersNumber (lanesOf ls .tables .answer (c .args .state))) (sym shape);
-      below = pow-pos (length (c .args .lanes .now)) }
+      below = pow-pos (length (c .args .lanes .now));
+    }
 
 pub returns-in-Some : need.returns-in-Some
 returns-in-Some t c =
@@ -32,13 +33,14 @@ returns-in-Some t c =
     let bit = c .from .ensures ∙ byte-is (c .answer .result) in
     record {
       value = λ h.
-        numbers lane (tail ls) (c .size .result) (c .size-of .result) (c .size .ensures) (c .size-of .ensures) (c .args .state) (c .in-Some .first) (c .in-Some .others)
+          numbers lane (tail ls) (c .size .result) (c .size-of .result) (c .size .ensures) (c .size-of .ensures) (c .args .state) (c .in-Some .first) (c .in-Some .others)
           (c .from .result) (c .answers-of .result) (sym (c .halves .ensures .value) ∙ c .in-Some .is) (bit ∙ ap oneIf (c .answer .ensures)) (c .answers-of .ensures .value)
-        ∙ ap (λ ls. answersNumber (lanesOf ls .tables .answer (c .args .state))) (sym shape);
+          ∙ ap (λ ls. answersNumber (lanesOf ls .tables .answer (c .args .state))) (sym shape);
       below =
-        subst (λ n. c .from .result + 2 * c .answers-of .result < 2 ^ n) (sym (ap length shape))
-        (number-below lane (tail ls) (c .size .result) (c .size-of .result) (c .size .ensures) (c .size-of .ensures)
-          (c .from .result) (c .answers-of .result) (length (tail ls)) (c .answer .result) bit (c .answers-of .ensures .below)) }
+          subst (λ n. c .from .result + 2 * c .answers-of .result < 2 ^ n) (sym (ap length shape))
+          (number-below lane (tail ls) (c .size .result) (c .size-of .result) (c .size .ensures) (c .size-of .ensures)
+          (c .from .result) (c .answers-of .result) (length (tail ls)) (c .answer .result) bit (c .answers-of .ensures .below));
+    }
 
 pub returns-in-None : need.returns-in-None
 returns-in-None t c =
@@ -47,6 +49,7 @@ returns-in-None t c =
     let shape = first-and-rest ls lane (search needs) (c .lane-item .is) in
     record {
       value = λ h.
-        absurd (unknown lane (tail ls) (c .size .result) (c .size-of .result) (c .size .ensures) (c .size-of .ensures) (c .args .state)
+          absurd (unknown lane (tail ls) (c .size .result) (c .size-of .result) (c .size .ensures) (c .size-of .ensures) (c .args .state)
           (sym (c .halves .ensures .value) ∙ c .in-None .is) (subst (λ ls. c .args .state < lanesOf ls .tables .size) shape h));
-      below = pow-pos (length ls) }
+      below = pow-pos (length ls);
+    }

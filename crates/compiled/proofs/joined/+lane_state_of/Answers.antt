@@ -13,7 +13,7 @@ returns-then-place-eq0 t c =
     let lane = c .lane-item .result in
     let state = c .args .state in
     lane-here lane (tail ls) (c .size .result) (c .size-of .result) (c .size .ensures) (c .size-of .ensures) state (c .in-Some .first) (c .in-Some .others)
-      (sym (c .halves .ensures .value) ∙ c .in-Some .is)
+    (sym (c .halves .ensures .value) ∙ c .in-Some .is)
     ∙ ap (λ n. laneStateReply (lane ∷ tail ls) n state) (sym (c .if-place-eq0 .taken))
     ∙ ap (λ ls. laneStateReply ls (c .args .place) state) (sym (first-and-rest ls lane (search needs) (c .lane-item .is)))
 
@@ -24,7 +24,7 @@ returns-else-place-eq0 t c =
     let state = c .args .state in
     c .lane-state-of .ensures
     ∙ lane-later lane (tail ls) (c .size .result) (c .size-of .result) (c .size .ensures) (c .size-of .ensures) (c .args .place) state (c .in-Some .first) (c .in-Some .others)
-      (c .if-place-eq0 .left) (sym (c .halves .ensures .value) ∙ c .in-Some .is)
+    (c .if-place-eq0 .left) (sym (c .halves .ensures .value) ∙ c .in-Some .is)
     ∙ ap (λ ls. laneStateReply ls (c .args .place) state) (sym (first-and-rest ls lane (search needs) (c .lane-item .is)))
 
 pub returns-in-None : need.returns-in-None
@@ -33,5 +33,5 @@ returns-in-None t c =
     let lane = c .lane-item .result in
     let state = c .args .state in
     lane-none lane (tail ls) (c .size .result) (c .size-of .result) (c .size .ensures) (c .size-of .ensures) (c .args .place) state
-      (sym (c .halves .ensures .value) ∙ c .in-None .is)
+    (sym (c .halves .ensures .value) ∙ c .in-None .is)
     ∙ ap (λ ls. laneStateReply ls (c .args .place) state) (sym (first-and-rest ls lane (search needs) (c .lane-item .is)))

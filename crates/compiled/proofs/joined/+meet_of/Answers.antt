@@ -12,7 +12,7 @@ returns-in-rest t c =
     let ls = c .args .lanes .now in
     let lane = c .lane-item .result in
     unmet-first lane (tail ls) (c .size-lefts .result) (c .size-of-rights .result) (c .size-lefts .ensures) (c .size-of-rights .ensures)
-      (c .args .first) (c .args .second) (sym (c .halves .ensures .value) ∙ c .in-rest .is)
+    (c .args .first) (c .args .second) (sym (c .halves .ensures .value) ∙ c .in-rest .is)
     ∙ ap (λ ls. meetReply (lanesOf ls .tables) (c .args .first) (c .args .second)) (sym (first-and-rest ls lane (search needs) (c .lane-item .is)))
 
 pub returns-in-rest-halves : need.returns-in-rest-halves
@@ -20,7 +20,7 @@ returns-in-rest-halves t c =
     let ls = c .args .lanes .now in
     let lane = c .lane-item .result in
     unmet-second lane (tail ls) (c .size-lefts .result) (c .size-of-rights .result) (c .size-lefts .ensures) (c .size-of-rights .ensures)
-      (c .args .first) (c .args .second) (sym (c .halves-in-len1-up .ensures .value) ∙ c .in-rest-halves .is)
+    (c .args .first) (c .args .second) (sym (c .halves-in-len1-up .ensures .value) ∙ c .in-rest-halves .is)
     ∙ ap (λ ls. meetReply (lanesOf ls .tables) (c .args .first) (c .args .second)) (sym (first-and-rest ls lane (search needs) (c .lane-item .is)))
 
 pub returns-in-empty : need.returns-in-empty
@@ -33,10 +33,10 @@ returns-in-Some-halves t c =
     let ls = c .args .lanes .now in
     let lane = c .lane-item .result in
     meets lane (tail ls) (c .size-lefts .result) (c .size-of-rights .result) (c .size-lefts .ensures) (c .size-of-rights .ensures)
-      (c .args .first) (c .args .second) (c .in-Some .a) (c .in-Some-halves .b) (c .meet-left .result) (c .meet-of-right .result)
-      (c .unwrap-or .result) (c .unwrap-or-in-len1-up .result)
-      (sym (c .halves .ensures .value) ∙ c .in-Some .is) (sym (c .halves-in-len1-up .ensures .value) ∙ c .in-Some-halves .is)
-      (c .meet-left .ensures) (c .meet-of-right .ensures)
-      (c .unwrap-or .ensures ∙ ap (λ o. valueOr o (c .args .first)) (c .number .ensures .value))
-      (c .unwrap-or-in-len1-up .ensures ∙ ap (λ o. valueOr o (c .args .second)) (c .number-in-len1-up .ensures .value))
+    (c .args .first) (c .args .second) (c .in-Some .a) (c .in-Some-halves .b) (c .meet-left .result) (c .meet-of-right .result)
+    (c .unwrap-or .result) (c .unwrap-or-in-len1-up .result)
+    (sym (c .halves .ensures .value) ∙ c .in-Some .is) (sym (c .halves-in-len1-up .ensures .value) ∙ c .in-Some-halves .is)
+    (c .meet-left .ensures) (c .meet-of-right .ensures)
+    (c .unwrap-or .ensures ∙ ap (λ o. valueOr o (c .args .first)) (c .number .ensures .value))
+    (c .unwrap-or-in-len1-up .ensures ∙ ap (λ o. valueOr o (c .args .second)) (c .number-in-len1-up .ensures .value))
     ∙ ap (λ ls. meetReply (lanesOf ls .tables) (c .args .first) (c .args .second)) (sym (first-and-rest ls lane (search needs) (c .lane-item .is)))

@@ -28,7 +28,7 @@ returns-in-Some t c =
     let lane = c .lane-item .result in
     c .number .ensures .value
     ∙ number-all lane (tail ls) (c .size .result) (c .size-of .result) (c .size .ensures) (c .size-of .ensures) (getD ns 0 0) (tail ns) (c .in-Some .low)
-      (sym (c .in-Some .ensures tt))
+    (sym (c .in-Some .ensures tt))
     ∙ ap (numberReply (lane ∷ tail ls)) (sym (number-and-rest ns (search needs)))
     ∙ ap (λ ls. numberReply ls ns) (sym (first-and-rest ls lane (search needs) (c .lane-item .is)))
 

@@ -20,5 +20,5 @@ returns-in-len1-up t c =
     c .unwrap-or .ensures
     ∙ ap (λ o. valueOr o 0) (c .number .ensures .value)
     ∙ starts lane (tail ls) (c .size .result) (c .size-of .result) (c .size .ensures) (c .size-of .ensures) symbol (c .start-first .result) (c .start-of-others .result)
-      (c .start-first .ensures) (c .start-of-others .ensures)
+    (c .start-first .ensures) (c .start-of-others .ensures)
     ∙ ap (λ ls. startReply (lanesOf ls .tables) symbol) (sym (first-and-rest ls lane (search needs) (c .lane-item .is)))

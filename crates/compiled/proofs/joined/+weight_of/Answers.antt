@@ -22,6 +22,6 @@ returns-else-size-of-eq0 t c =
     let lane = c .lane-item .result in
     let shape = first-and-rest ls lane (search needs) (c .lane-item .is) in
     weighs lane (tail ls) _ _ refl refl (c .weight .result) (c .weight-of .result)
-      (λ e. c .if-size-of-eq0 .left (c .size-of .ensures ∙ ap (λ ls. lanesOf ls .tables .size) shape ∙ e))
-      (c .weight .ensures) (c .weight-of .ensures)
+    (λ e. c .if-size-of-eq0 .left (c .size-of .ensures ∙ ap (λ ls. lanesOf ls .tables .size) shape ∙ e))
+    (c .weight .ensures) (c .weight-of .ensures)
     ∙ ap (λ ls. lanesOf ls .weight) (sym shape)

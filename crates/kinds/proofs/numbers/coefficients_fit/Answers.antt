@@ -16,7 +16,7 @@ use Rattle.kinds.proofs.numbers.coefficients_fit.Needs as need
 
 -- the coefficients from i on, by whether that at i fits
 from : (ks : List ℤ) (i : ℕ) (b : Bool) → i < length ks → SFits w32 (getD ks i (pos 0)) → b ≡ leb (natAbs (toZ w32 (ofZ w32 (getD ks i (pos 0))))) 99
-  → coefficientsFit (drop i ks) ≡ (b && coefficientsFit (drop (i + 1) ks))
+    → coefficientsFit (drop i ks) ≡ (b && coefficientsFit (drop (i + 1) ks))
 from ks i b h fits e =
     at-drop-more coefficientsFit ks i (pos 0) h
     ∙ ap (λ t. t && coefficientsFit (drop (i + 1) ks)) (sym (e ∙ ap (λ z. leb (natAbs z) 99) (toZ-ofZ w32 (getD ks i (pos 0)) fits)))

@@ -24,4 +24,5 @@ returns-then-right-rights c =
     let back = number-undone lefts rights left right fits (c .if-left-lefts .taken) (c .if-right-rights .taken) in
     record {
       value = cc;
-      undone = λ state e. cc }
+      undone = λ state e. cc;
+    }

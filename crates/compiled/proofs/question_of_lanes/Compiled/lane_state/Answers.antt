@@ -10,4 +10,5 @@ returns c =
     let q = c .args .self .now in
     record {
       value = c .lane-state-of .ensures ∙ ap (λ ls. laneStateReply ls (c .args .place) (c .args .state)) (c .lanes .ensures);
-      undone = split-undone (take (q .count) (q .kept)) (c .args .state) }
+      undone = split-undone (take (q .count) (q .kept)) (c .args .state);
+    }

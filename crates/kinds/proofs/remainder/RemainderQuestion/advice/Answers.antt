@@ -16,7 +16,7 @@ returns-in-Some-lowest-2 c =
     let d = c .in-Some .digit in
     let made = c .in-Some .ensures tt in
     sym (merges (q .coefficients) (q .modulus) (q .residue) (c .args .words .now) (c .args .unit) (c .size .result) (d .unit) (d .size) (c .in-Some-lowest .leader)
-      (c .size .ensures) (made .test) (made .some) (c .in-Some-lowest .ensures tt) (c .in-Some-lowest-2 .partner) (c .in-Some-lowest-2 .ensures tt))
+    (c .size .ensures) (made .test) (made .some) (c .in-Some-lowest .ensures tt) (c .in-Some-lowest-2 .partner) (c .in-Some-lowest-2 .ensures tt))
 
 pub offset-words-leader : need.offset-words-leader
 offset-words-leader c =
@@ -35,8 +35,8 @@ returns-in-Some-lowest-3 c =
     let d = c .in-Some .digit in
     let made = c .in-Some .ensures tt in
     sym (corrects (q .coefficients) (q .modulus) (q .residue) (c .args .words .now) (c .args .unit) (c .size .result) (d .unit) (d .size) (c .in-Some-lowest .leader)
-      (c .size .ensures) (made .test) (made .some) (c .in-Some-lowest .ensures tt) (c .in-rest-lowest-2 .ensures tt) (c .of .result) (c .of .ensures)
-      (Some (c .in-Some-lowest-3 .partner)) (c .in-Some-lowest-3 .ensures tt))
+    (c .size .ensures) (made .test) (made .some) (c .in-Some-lowest .ensures tt) (c .in-rest-lowest-2 .ensures tt) (c .of .result) (c .of .ensures)
+    (Some (c .in-Some-lowest-3 .partner)) (c .in-Some-lowest-3 .ensures tt))
 
 pub returns-in-None : need.returns-in-None
 returns-in-None c =
@@ -44,5 +44,5 @@ returns-in-None c =
     let d = c .in-Some .digit in
     let made = c .in-Some .ensures tt in
     sym (corrects (q .coefficients) (q .modulus) (q .residue) (c .args .words .now) (c .args .unit) (c .size .result) (d .unit) (d .size) (c .in-Some-lowest .leader)
-      (c .size .ensures) (made .test) (made .some) (c .in-Some-lowest .ensures tt) (c .in-rest-lowest-2 .ensures tt) (c .of .result) (c .of .ensures)
-      None (c .in-None .ensures tt))
+    (c .size .ensures) (made .test) (made .some) (c .in-Some-lowest .ensures tt) (c .in-rest-lowest-2 .ensures tt) (c .of .result) (c .of .ensures)
+    None (c .in-None .ensures tt))

@@ -29,5 +29,5 @@ returns-then-from-size c =
     let few : q .span ≤ 1000 = span-small (q .coefficients) (q .bound) (q .span) (q .fits) (q .wide) in
     let known : state < 4 * (2 * s + 1) = omega arith in
     let it = fields-contract s state _ known
-      (value-cast (q .span) state few (omega (arith, q .wide)) ∙ ap (λ x. pos (state / 4) -ℤ pos x) (q .wide)) in
+    (value-cast (q .span) state few (omega (arith, q .wide)) ∙ ap (λ x. pos (state / 4) -ℤ pos x) (q .wide)) in
     record { value = it .0; undone = it .1 }

@@ -21,7 +21,7 @@ index-words-place c =
 pub offset-words-place : need.offset-words-place
 offset-words-place c =
     let here : c .in-Some-lowest .place < length (c .args .words .now) =
-      found-within (λ _ state. leadPart state) (c .in-Some .digit .unit) (c .in-Some .digit .size) (c .args .words .now) (c .in-Some-lowest .place) (c .in-Some-lowest .ensures tt) in
+    found-within (λ _ state. leadPart state) (c .in-Some .digit .unit) (c .in-Some .digit .size) (c .args .words .now) (c .in-Some-lowest .place) (c .in-Some-lowest .ensures tt) in
     search needs
 
 pub returns-in-Some-lowest-2 : need.returns-in-Some-lowest-2

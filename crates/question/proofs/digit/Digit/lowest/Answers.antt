@@ -19,9 +19,9 @@ returns-then-passes-at g c =
     let place = c .loop-place .place in
     let here = c .loop-place-test .taken in
     sym (ap (lowest (λ k. passes k (stateAt (map read words) k))) (length-map words read)
-      ∙ lowest-is (λ k. passes k (stateAt (map read words) k)) (length words) place here
-      (ap (passes place) (getD-map read words place 0 0 here ∙ sym (c .of .ensures)) ∙ sym (c .if-passes-at .ensures tt))
-      (λ k h. ap (passes k) (getD-map read words k 0 0 (omega arith)) ∙ c .loop-place .inv k h))
+    ∙ lowest-is (λ k. passes k (stateAt (map read words) k)) (length words) place here
+    (ap (passes place) (getD-map read words place 0 0 here ∙ sym (c .of .ensures)) ∙ sym (c .if-passes-at .ensures tt))
+    (λ k h. ap (passes k) (getD-map read words k 0 0 (omega arith)) ∙ c .loop-place .inv k h))
 
 pub returns : need.returns
 returns g c =
@@ -30,5 +30,5 @@ returns g c =
     let passes = g .T·Test .passes (c .args .test .now) in
     let end = c .loop-place-test .left in
     sym (ap (lowest (λ k. passes k (stateAt (map read words) k))) (length-map words read)
-      ∙ lowest-fails (λ k. passes k (stateAt (map read words) k)) (length words)
-      (λ k h. ap (passes k) (getD-map read words k 0 0 h) ∙ c .loop-place .inv k (omega arith)))
+    ∙ lowest-fails (λ k. passes k (stateAt (map read words) k)) (length words)
+    (λ k h. ap (passes k) (getD-map read words k 0 0 h) ∙ c .loop-place .inv k (omega arith)))

@@ -31,7 +31,7 @@ returns-in-Settled g c =
     let unit = c .args .unit in
     let ok : allowedUnit unit (pair l r .tables .size) ≡ true = cc (c .if-not-allowed .ensures tt) in
     let left : adviceReply l words (unit * r .tables .size) ≡ Settled =
-      ap (λ n. adviceReply l words (unit * n)) (sym (c .size-2 .ensures)) ∙ sym (c .in-Settled .ensures tt) in
+    ap (λ n. adviceReply l words (unit * n)) (sym (c .size-2 .ensures)) ∙ sym (c .in-Settled .ensures tt) in
     sym (advice-joined l r words unit (nonempty words (c .if-is-empty .ensures tt)) ok ∙ ap (λ a. unlessSettled a (adviceReply r words unit)) left ∙ sym (c .advice-in-Settled .ensures))
 
 pub returns-in-rest : need.returns-in-rest
@@ -42,6 +42,6 @@ returns-in-rest g c =
     let unit = c .args .unit in
     let ok : allowedUnit unit (pair l r .tables .size) ≡ true = cc (c .if-not-allowed .ensures tt) in
     let left : adviceReply l words (unit * r .tables .size) ≡ c .advice .result =
-      ap (λ n. adviceReply l words (unit * n)) (sym (c .size-2 .ensures)) ∙ sym (c .advice .ensures) in
+    ap (λ n. adviceReply l words (unit * n)) (sym (c .size-2 .ensures)) ∙ sym (c .advice .ensures) in
     sym (advice-joined l r words unit (nonempty words (c .if-is-empty .ensures tt)) ok ∙ ap (λ a. unlessSettled a (adviceReply r words unit)) left
-      ∙ unsettled (c .advice .result) (adviceReply r words unit) (c .in-rest .not-Settled))
+    ∙ unsettled (c .advice .result) (adviceReply r words unit) (c .in-rest .not-Settled))

@@ -18,7 +18,7 @@ returns g c =
     let l = g .L·Question .meaning (b .left) .protocol in
     let r = g .R·Question .meaning (b .right) .protocol in
     let is = answer-joined (λ x. bitAt (b .rule) (2 * oneIf (x .0) + oneIf (x .1))) l r (c .args .state) (c .in-Some .left) (c .in-Some .right)
-      (sym (c .halves .ensures .value) ∙ c .in-Some .is) in
+    (sym (c .halves .ensures .value) ∙ c .in-Some .is) in
     let left = c .from .ensures ∙ byte-is (c .answer .result) ∙ ap oneIf (c .answer .ensures) in
     let right = c .from-2 .ensures ∙ byte-is (c .answer-2 .result) ∙ ap oneIf (c .answer-2 .ensures) in
     c .bit-at .ensures
