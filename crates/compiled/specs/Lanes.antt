@@ -1,7 +1,7 @@
 -- What a lane means, and several of them. Assumes nothing.
 use mathlib.Core.Bool.{Bool, true, false, cond, _&&_}
-use mathlib.Core.List.{List, [], _∷_, map}
-use Prim.Native.Nat.{ℕ, _^_}
+use mathlib.Core.List.{List, [], _∷_, _++_, map}
+use Prim.Native.Nat.{ℕ, _+_, _*_, _^_}
 use lib.Dec.{ltb, leb}
 use lib.ListN.{length, getD}
 use Rattle.std.specs.declared.option.Option.{Option}
@@ -55,11 +55,16 @@ laneStateReply ls lane state =
 abbrev pub numberReply : List Lane → List ℕ → Option ℕ
 numberReply ls ns = cond (ltb 0 (lanesOf ls .tables .size) && eachKnown ls ns) (Some (joinNumbers ls ns)) None
 
+-- with each lane, from place k on, the product of the sizes up to it, p being that of those before, still fits words of 32 bits
+abbrev pub statesChecks : ℕ → ℕ → List Lane → List Check
+statesChecks p k [] = []
+statesChecks p k (l ∷ ls) =
+    check TooManyStates (leb (p * laneMeaning l .protocol .tables .size) (2 ^ 32)) k
+    ∷ statesChecks (p * laneMeaning l .protocol .tables .size) (k + 1) ls
+
 -- what is asked of the lanes and the table of which a question is made
 abbrev pub lanesChecks : List Lane → ℕ → List Check
 lanesChecks ls table =
     check LengthMismatch (ltb 0 (length ls)) 0
-    ∷ check TooManyAtoms (leb (length ls) 6) 0
-    ∷ check TooManyStates (ltb 0 (lanesOf ls .tables .size)) 0
-    ∷ check NumberRange (ltb table (2 ^ (2 ^ length ls))) 0
-    ∷ []
+    ∷ check TooManyAtoms (leb (length ls) 6) 6
+    ∷ (statesChecks 1 0 ls ++ (check NumberRange (ltb table (2 ^ (2 ^ length ls))) 0 ∷ []))

@@ -2,19 +2,21 @@
 ghost use mathlib.Core.Path.{_≡_};
 ghost use mathlib.Core.Bool.{Bool};
 ghost use mathlib.Core.List.{List};
-ghost use Prim.Native.Nat.{ℕ, _<_, _≤_, _^_};
+ghost use Prim.Native.Nat.{ℕ, _+_, _<_, _≤_, _^_};
 ghost use lib.Dec.{ltb};
 ghost use lib.ListN.{length, take};
 ghost use Rattle.protocol.specs.Joining.{compiled};
 ghost use Rattle.refusal.specs.Checks.{verdict};
 ghost use Rattle.std.specs.declared.option.Option.the-variants.{Some};
 ghost use Rattle.std.specs.declared.result.Result.the-variants.{Ok, Err};
-ghost use Rattle.compiled.specs.Lanes.{laneProtocols, lanesOf, splitNumber, numberReply, laneStateReply, lanesChecks};
+ghost use Rattle.compiled.specs.Lanes.{laneProtocols, lanesOf, splitNumber, numberReply, laneStateReply, statesChecks, lanesChecks};
 use super::joined;
 use super::lane::Lane;
+use super::lane::LaneQuestion;
 use kinds::Presence;
 use protocol::Advice;
 use question::Question;
+use question::states;
 use question::states::bit_at;
 use reading::Symbol;
 use refusal::Fault;
@@ -52,6 +54,32 @@ fn table_fits(lanes: usize, table: u64) -> bool
     }
 }
 
+// With each lane, from this place on, the states still fit words of 32 bits; `product` is how many those before have together.
+fn check_states(lanes: &[Lane], product: u64, place: usize) -> Result<(), Fault>
+    requires { ⌜ 0 < product ⌝ ∗ ⌜ place + length (now lanes) ≤ 6 ⌝ }
+    ensures { λ r. ⌜ r ≡ verdict (statesChecks product place (now (lanes .entry))) ⌝ }
+{
+    match lanes {
+        [] => Ok(()),
+        [lane, rest @ ..] => {
+            let product = states::product(product, lane.size());
+            Refusal::TooManyStates.unless(product > 0, place)?;
+            check_states(rest, product, place + 1)
+        }
+    }
+}
+
+// What is asked of lanes and a table, in this order: no lane, more than six (at the seventh), more states than words of 32 bits can
+// number (at the lane with which there are), a table bit from 2^lanes up.
+fn check_lanes(lanes: &[Lane], table: u64) -> Result<(), Fault>
+    ensures { λ r. ⌜ r ≡ verdict (lanesChecks (now (lanes .entry)) table) ⌝ }
+{
+    Refusal::LengthMismatch.unless(!lanes.is_empty(), 0)?;
+    Refusal::TooManyAtoms.unless(lanes.len() <= LANES, LANES)?;
+    check_states(lanes, 1, 0)?;
+    Refusal::NumberRange.unless(table_fits(lanes.len(), table), 0)
+}
+
 // The lanes in an array; what stands behind them does not count.
 fn kept(lanes: &[Lane]) -> [Lane; LANES]
     requires { ⌜ length (now lanes) ≤ 6 ⌝ }
@@ -66,14 +94,11 @@ fn kept(lanes: &[Lane]) -> [Lane; LANES]
 }
 
 impl Compiled {
-    // Refused, in this order: no lane, more than six, more states than words of 32 bits can number, a table bit from 2^lanes up.
+    // Lanes in their order, kept as they are given, and a table; what does not fit is refused, not mended.
     pub fn new(lanes: &[Lane], table: u64) -> Result<Compiled, Fault>
         ensures { λ r. ⌜ elim r [ Ok q ↦ (verdict (lanesChecks (now (lanes .entry)) table) ≡ Ok tt) × (take (q .count) (q .kept) ≡ now (lanes .entry)) × (q .table ≡ table) | Err f ↦ verdict (lanesChecks (now (lanes .entry)) table) ≡ Err f ] ⌝ }
     {
-        Refusal::LengthMismatch.unless(!lanes.is_empty(), 0)?;
-        Refusal::TooManyAtoms.unless(lanes.len() <= LANES, 0)?;
-        Refusal::TooManyStates.unless(joined::size_of(lanes) > 0, 0)?;
-        Refusal::NumberRange.unless(table_fits(lanes.len(), table), 0)?;
+        check_lanes(lanes, table)?;
         Ok(Compiled {
             kept: kept(lanes),
             count: lanes.len(),

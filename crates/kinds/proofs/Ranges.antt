@@ -21,6 +21,11 @@ coefficients-within (k ∷ ks) e =
     let parts = and-parts (leb (natAbs k) 99) (coefficientsFit ks) e in
     (leb-true (natAbs k) 99 (parts .0), coefficients-within ks (parts .1))
 
+pub modulus-some : (ks : List ℤ) (m c : ℕ) → remainderFits ks m c ≡ true → 2 ≤ m
+modulus-some ks m c e =
+    let one = and-parts (coefficientsFit ks) (leb 2 m && (leb m 999 && ltb c m)) e in
+    leb-true 2 m (and-parts (leb 2 m) (leb m 999 && ltb c m) (one .1) .0)
+
 pub remainder-in-range : (ks : List ℤ) (m c : ℕ) → length ks ≡ 8 → remainderFits ks m c ≡ true → Lawful (remainderProtocol ks m c)
 remainder-in-range ks m c eight e =
     let one = and-parts (coefficientsFit ks) (leb 2 m && (leb m 999 && ltb c m)) e in

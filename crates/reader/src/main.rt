@@ -1,4 +1,4 @@
-// Reads probe bytes from standard input, classes them, and prints their symbols and how often each came.
+// Reads probe bytes from standard input, classes them, and prints their symbols and how often each came; then shows some questions.
 ghost use mathlib.Core.Path.{_≡_};
 ghost use mathlib.Core.List.{map};
 ghost use Rattle.probe.specs.Classes.{symbolOf};
@@ -18,6 +18,7 @@ use std::io::BufRead;
 use std::io::BufReader;
 
 mod lines;
+mod questions;
 
 fn main(rt: LibcRuntime) -> Result<(), AnyError> {
     rt.report(run(&rt))
@@ -38,7 +39,7 @@ fn run(rt: &LibcRuntime) -> Result<(), AnyError> {
         class_line(rt, line_number, text.as_str(), &mut readings)?;
     }
     println!(rt, "counts: {}", Counts::of(readings.as_slice()))?;
-    Ok(())
+    questions::show_some(rt)
 }
 
 // Adds the symbols of one line to the readings, and prints what the line held.

@@ -16,7 +16,7 @@ use Rattle.protocol.specs.Threshold.{threshold}
 pub data Follows (p : Protocol Bool) : List ℕ → List ((ℕ × ℕ) × List ℕ) → Type 0 where
   settled : {states : List ℕ} → adviceReply p states 1 ≡ Settled → Follows p states []
   meets : {states left : List ℕ} {rest : List ((ℕ × ℕ) × List ℕ)} (first second : ℕ) → adviceReply p states 1 ≡ Meet first second
-    → meeting (meetReply (p .tables)) states first second ≡ left → Follows p left rest → Follows p states (((first, second), left) ∷ rest)
+      → meeting (meetReply (p .tables)) states first second ≡ left → Follows p left rest → Follows p states (((first, second), left) ∷ rest)
 
 -- what a row of the table says of a question
 pub data Fact : Type 0 where
@@ -62,9 +62,9 @@ facts =
     ∷ starts threeA 0 47
     ∷ meet-into threeA (47, 47) (59, 33)
     ∷ load threeA (0 ∷ 0 ∷ 0 ∷ []) (47 ∷ 47 ∷ 47 ∷ [])
-      (((0, 1), 59 ∷ 33 ∷ 47 ∷ []) ∷ ((0, 2), 66 ∷ 33 ∷ 36 ∷ []) ∷ ((0, 1), 66 ∷ 32 ∷ 36 ∷ []) ∷ []) false
+    (((0, 1), 59 ∷ 33 ∷ 47 ∷ []) ∷ ((0, 2), 66 ∷ 33 ∷ 36 ∷ []) ∷ ((0, 1), 66 ∷ 32 ∷ 36 ∷ []) ∷ []) false
     ∷ load minusA (0 ∷ 0 ∷ 0 ∷ []) (10 ∷ 10 ∷ 10 ∷ [])
-      (((0, 1), 6 ∷ 12 ∷ 10 ∷ []) ∷ ((0, 2), 3 ∷ 12 ∷ 13 ∷ []) ∷ ((0, 1), 3 ∷ 13 ∷ 13 ∷ []) ∷ []) true
+    (((0, 1), 6 ∷ 12 ∷ 10 ∷ []) ∷ ((0, 2), 3 ∷ 12 ∷ 13 ∷ []) ∷ ((0, 1), 3 ∷ 13 ∷ 13 ∷ []) ∷ []) true
     ∷ size-is onlyA 4
     ∷ load onlyA (0 ∷ 1 ∷ []) (2 ∷ 1 ∷ []) (((0, 1), 3 ∷ 3 ∷ []) ∷ []) false
     ∷ []
