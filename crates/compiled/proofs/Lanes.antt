@@ -19,7 +19,7 @@ use Rattle.question.specs.Halves.{halvesReply, numberReply}
 use Rattle.question.proofs.Halves.{halves-facts}
 use Rattle.question.proofs.Replies.{half-units, advice-joined, start-joined, first-unknown, second-unknown, meet-joined, halves-some, halves-none}
 use Rattle.protocol.specs.Laws.{Lawful}
-use Rattle.protocol.proofs.Joining.{lanes-lawful}
+use Rattle.protocol.proofs.Joining.{lanes-lawful, pairs}
 use Rattle.protocol.proofs.Presence.{presence-lawful}
 use Rattle.std.specs.shelf.Lists.{All}
 use Rattle.kinds.proofs.Ranges.{threshold-in-range, remainder-in-range}
@@ -100,9 +100,6 @@ module _ (l : Lane) (rest : List Lane) (lefts rights : ℕ)
       ∙ ap (λ z. number (meetReply (laneMeaning l .protocol .tables) (a .0) (b .0) .0) (z .0) first) ye ∙ it .0)
       (qe ∙ resized (x .1) (y .1) second ∙ ap (λ z. number (z .1) (y .1) second) xe
       ∙ ap (λ z. number (meetReply (laneMeaning l .protocol .tables) (a .0) (b .0) .1) (z .1) second) ye ∙ it .1)
-    where
-      pairs : {a b c d : ℕ} → a ≡ c → b ≡ d → _≡_ {A = ℕ × ℕ} (a, b) (c, d)
-      pairs e f = cc
 
   -- the answers of the halves of a known number
   pub answers : (state x y : ℕ) → halvesReply lefts rights state ≡ Some (x, y)

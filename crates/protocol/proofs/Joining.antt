@@ -42,7 +42,7 @@ answered-lawful f p law = record {
 at : (f : ℕ → ℕ) → f 0 ≡ 0 → (qs : List ℕ) (k : ℕ) → stateAt (map f qs) k ≡ f (stateAt qs k)
 at f z qs k = ap (getD (map f qs) k) (sym z) ∙ List·getD-map f qs k 0
 
-pairs : {A B : Type 0} {a c : A} {b d : B} → a ≡ c → b ≡ d → _≡_ {A = A × B} (a, b) (c, d)
+pub pairs : {A B : Type 0} {a c : A} {b d : B} → a ≡ c → b ≡ d → _≡_ {A = A × B} (a, b) (c, d)
 pairs e f = cc
 
 div-known : (a m c : ℕ) → 0 < c → a < m * c → a / c < m

@@ -1,4 +1,4 @@
--- The numbers of the threshold's tags: a signed value as its offset from -s.
+-- The numbers of the threshold's tags: a signed value as its offset from -s. Assumes nothing.
 use mathlib.Core.Path.{_≡_, sym, ap, _∙_}
 use mathlib.Core.Logic.{_⊎_, ⊎-elim}
 use mathlib.Core.Bool.{Bool, true, false}

@@ -10,13 +10,14 @@ use lib.Arith.{digits-div, digits-mod, mod-mul}
 use lib.Dec.{ltb, leb, eqb}
 use lib.ListN.{length}
 use Rattle.std.proofs.shelf.Tests.{cond-true, cond-false, and-from, lt-ltb, le-leb, ltb-true, cases-bool, eqb-false, and-left, and-right, cond-both}
+use mir.Val.{boolByte}
 use Rattle.std.specs.Options.{valueOr}
 use Rattle.std.specs.declared.option.Option.{Option}
 use Rattle.std.specs.declared.option.Option.the-variants.{Some, None}
 use Rattle.protocol.specs.declared.Advice.{Advice}
 use Rattle.protocol.specs.declared.Advice.the-variants.{Meet, Settled, Lost}
 use Rattle.protocol.specs.Protocols.{Protocol, Tables, startReply, answerReply, meetReply, adviceReply, stateRead, allowedUnit}
-use Rattle.protocol.specs.Joining.{answered, pair, bounded, joined, leftOf, rightOf, unlessSettled}
+use Rattle.protocol.specs.Joining.{oneIf, answered, pair, bounded, joined, leftOf, rightOf, unlessSettled}
 use Rattle.protocol.specs.Laws.{Lawful}
 use Rattle.protocol.proofs.Joining.{bounded-is, factors}
 use Rattle.question.specs.Halves.{halvesReply, numberReply}
@@ -219,3 +220,8 @@ start-joined l r ll lr symbol =
     zeros lefts rights =
         cond-both (ltb 0 (bounded (lefts * rights)) && (ltb 0 lefts && ltb 0 rights)) (Some (joined rights 0 0)) None (λ o. valueOr o 0 ≡ 0)
         (λ _. omega (arith, zero-mul rights)) (λ _. refl)
+
+-- a bool as a number
+pub byte-is : (b : Bool) → boolByte b ≡ oneIf b
+byte-is true = refl
+byte-is false = refl

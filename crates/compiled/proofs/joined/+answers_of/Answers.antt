@@ -1,21 +1,16 @@
 -- The answers of the first lane and of the rest. Assumes nothing.
 use mathlib.Core.Path.{_≡_, refl, sym, ap, subst, _∙_}
-use mathlib.Core.Bool.{Bool, true, false}
 use mathlib.Core.List.{_∷_}
 use Prim.Native.Nat.{ℕ, suc, _+_, _*_, _^_, _<_}
 use native.Mathlib.Omega.{arith}
 use borrow.Author.Needs.{needs}
 use lib.ListN.{length}
 use lib.Pow.{pow-pos}
-use mir.Val.{boolByte}
 use Rattle.protocol.specs.Joining.{oneIf, answersNumber}
+use Rattle.question.proofs.Replies.{byte-is}
 use Rattle.compiled.specs.Lanes.{lanesOf}
 use Rattle.compiled.proofs.Lanes.{tail, first-and-rest, no-item, numbers, number-below, unknown}
 use Rattle.compiled.proofs.joined.+answers_of.Needs as need
-
-byte-is : (b : Bool) → boolByte b ≡ oneIf b
-byte-is true = refl
-byte-is false = refl
 
 pub returns-in-empty : need.returns-in-empty
 returns-in-empty t c =

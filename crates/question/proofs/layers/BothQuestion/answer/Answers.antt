@@ -1,16 +1,11 @@
 -- The answer is the rule's, for the answers of the halves. Assumes nothing.
-use mathlib.Core.Path.{_≡_, refl, sym, ap, _∙_}
-use mathlib.Core.Bool.{Bool, true, false}
+use mathlib.Core.Path.{_≡_, sym, ap, _∙_}
+use mathlib.Core.Bool.{Bool}
 use Prim.Native.Nat.{_+_, _*_}
-use mir.Val.{boolByte}
 use Rattle.protocol.specs.Protocols.{answerReply}
 use Rattle.protocol.specs.Joining.{bitAt, oneIf}
-use Rattle.question.proofs.Replies.{answer-joined}
+use Rattle.question.proofs.Replies.{answer-joined, byte-is}
 use Rattle.question.proofs.layers.BothQuestion.answer.Needs as need
-
-byte-is : (b : Bool) → boolByte b ≡ oneIf b
-byte-is true = refl
-byte-is false = refl
 
 pub returns : need.returns
 returns g c =

@@ -3,12 +3,10 @@ use mathlib.Core.Path.{_≡_, sym, ap, _∙_}
 use Prim.Native.Nat.{ℕ}
 use Rattle.std.specs.Options.{valueOr}
 use Rattle.protocol.specs.Protocols.{meetReply}
+use Rattle.protocol.proofs.Joining.{pairs}
 use Rattle.question.specs.Halves.{numberReply}
 use Rattle.question.proofs.Replies.{meet-joined}
 use Rattle.question.proofs.layers.BothQuestion.meet.Needs as need
-
-pairs : {a b c d : ℕ} → a ≡ c → b ≡ d → _≡_ {A = ℕ × ℕ} (a, b) (c, d)
-pairs e f = cc
 
 pub returns : need.returns
 returns g c =
