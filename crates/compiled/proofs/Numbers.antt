@@ -78,10 +78,55 @@ given ls ns state e =
     let z : _≡_ {A = ℕ} 0 1 = cc in absurd (omega arith))
     (cases-bool (ltb 0 (sizeOf ls) && eachKnown ls ns))
 
-pub number-undone : (ls : List Lane) (ns : List ℕ) (state : ℕ) → numberReply ls ns ≡ Some state → splitNumber ls state ≡ ns
-number-undone ls ns state e =
+-- as many numbers as lanes
+known-length : (ls : List Lane) (ns : List ℕ) → eachKnown ls ns ≡ true → length ns ≡ length ls
+known-length [] [] e = refl
+known-length [] (n ∷ ns) e = absurd (both-ways true (sym e) refl)
+known-length (l ∷ ls) [] e = absurd (both-ways true (sym e) refl)
+known-length (l ∷ ls) (n ∷ ns) e = ap suc (known-length ls ns (and-parts (ltb n (laneSize l)) (eachKnown ls ns) e .1))
+
+-- the state of numbers has each of them in its lane
+pub number-undone : (ls : List Lane) (ns : List ℕ) (state k : ℕ) → numberReply ls ns ≡ Some state → k < length ns → laneStateReply ls k state ≡ Some (getD ns k 0)
+number-undone ls ns state k e h =
     let it = given ls ns state e in
-    ap (splitNumber ls) (it .2) ∙ join-known ls ns (it .0) (it .1) .1
+    let known = join-known ls ns (it .0) (it .1) in
+    let long = known-length ls ns (it .1) in
+    cond-true _ _ None (and-from _ _ (lt-ltb k (length ls) (omega arith)) (lt-ltb state (sizeOf ls) (omega (arith, it .2, known .0))))
+    ∙ ap (λ xs. Some (getD xs k 0)) (ap (splitNumber ls) (it .2) ∙ known .1)
+
+split-length : (ls : List Lane) (state : ℕ) → length (splitNumber ls state) ≡ length ls
+split-length [] state = refl
+split-length (l ∷ ls) state = ap suc (split-length ls (rightOf (sizeOf ls) state))
+
+-- what a lane's number that was given fulfils
+lane-given : (ls : List Lane) (k state n : ℕ) → laneStateReply ls k state ≡ Some n → (state < sizeOf ls) × (getD (splitNumber ls state) k 0 ≡ n)
+lane-given ls k state n e =
+    ⊎-elim
+    (λ known.
+      let two = and-parts (ltb k (length ls)) (ltb state (sizeOf ls)) known in
+      let value : _≡_ {A = Option ℕ} (Some (getD (splitNumber ls state) k 0)) (Some n) = sym (cond-true _ _ None known) ∙ e in
+      (ltb-true state (sizeOf ls) (two .1), cc))
+    (λ unknown.
+      let value : _≡_ {A = Option ℕ} None (Some n) = sym (cond-false _ _ None unknown) ∙ e in
+      let z : _≡_ {A = ℕ} 0 1 = cc in absurd (omega arith))
+    (cases-bool (ltb k (length ls) && ltb state (sizeOf ls)))
+
+-- the numbers that the lanes of a state have make it again
+pub lanes-undone : (ls : List Lane) (state : ℕ) (ns : List ℕ) → 0 < length ls → length ns ≡ length ls
+  → ((k : ℕ) → k < length ns → laneStateReply ls k state ≡ Some (getD ns k 0)) → numberReply ls ns ≡ Some state
+lanes-undone ls state ns some long each =
+    let first = lane-given ls 0 state (getD ns 0 0) (each 0 (omega arith)) in
+    let same : ns ≡ splitNumber ls state =
+      same-places ns (splitNumber ls state) (long ∙ sym (split-length ls state))
+      (λ k h. sym (lane-given ls k state (getD ns k 0) (each k h) .1)) in
+    ap (numberReply ls) same ∙ split-undone ls state (first .0)
+  where
+  same-places : (xs ys : List ℕ) → length xs ≡ length ys → ((k : ℕ) → k < length xs → getD xs k 0 ≡ getD ys k 0) → xs ≡ ys
+  same-places [] [] e f = refl
+  same-places [] (y ∷ ys) e f = absurd (omega arith)
+  same-places (x ∷ xs) [] e f = absurd (omega arith)
+  same-places (x ∷ xs) (y ∷ ys) e f =
+      ap (λ z. z ∷ xs) (f 0 (omega arith)) ∙ ap (λ zs. y ∷ zs) (same-places xs ys (omega arith) (λ k h. f (suc k) (omega arith)))
 
 -- the steps of the code
 module _ (l : Lane) (rest : List Lane) (lefts rights : ℕ) (sized : lefts ≡ laneSize l) (others : rights ≡ sizeOf rest) where

@@ -22,6 +22,7 @@ laneMeaning (Threshold q) = threshold (q .coefficients) (q .bound)
 laneMeaning (Remainder q) = remainder (q .coefficients) (q .modulus) (q .residue)
 laneMeaning (Presence q) = presence (q .mask)
 
+-- the protocols of lanes
 abbrev pub laneProtocols : List Lane → List (Protocol Bool)
 laneProtocols ls = map (λ l. laneMeaning l .protocol) ls
 
@@ -29,11 +30,12 @@ laneProtocols ls = map (λ l. laneMeaning l .protocol) ls
 abbrev pub lanesOf : List Lane → Protocol (List Bool)
 lanesOf ls = lanes (laneProtocols ls)
 
--- one number a lane, in the order of the lanes, and a number again
+-- one number a lane, in the order of the lanes
 abbrev pub splitNumber : List Lane → ℕ → List ℕ
 splitNumber [] state = []
 splitNumber (l ∷ ls) state = leftOf (lanesOf ls .tables .size) state ∷ splitNumber ls (rightOf (lanesOf ls .tables .size) state)
 
+-- the number of one number a lane
 abbrev pub joinNumbers : List Lane → List ℕ → ℕ
 joinNumbers [] ns = 0
 joinNumbers (l ∷ ls) [] = 0

@@ -7,4 +7,4 @@ pub use lane::Lane;
 pub use lane::LaneQuestion;
 pub use question_of_lanes::Compiled;
 pub use question_of_lanes::CompiledQuestion;
-pub use question_of_lanes::LANES;
+pub use question_of_lanes::MAX_LANES;

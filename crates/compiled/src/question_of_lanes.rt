@@ -4,12 +4,12 @@ ghost use mathlib.Core.Bool.{Bool};
 ghost use mathlib.Core.List.{List};
 ghost use Prim.Native.Nat.{ℕ, _+_, _<_, _≤_, _^_};
 ghost use lib.Dec.{ltb};
-ghost use lib.ListN.{length, take};
+ghost use lib.ListN.{length, getD, take};
 ghost use Rattle.protocol.specs.Joining.{compiled};
 ghost use Rattle.refusal.specs.Checks.{verdict};
 ghost use Rattle.std.specs.declared.option.Option.the-variants.{Some};
 ghost use Rattle.std.specs.declared.result.Result.the-variants.{Ok, Err};
-ghost use Rattle.compiled.specs.Lanes.{laneProtocols, lanesOf, splitNumber, numberReply, laneStateReply, statesChecks, lanesChecks};
+ghost use Rattle.compiled.specs.Lanes.{laneProtocols, lanesOf, numberReply, laneStateReply, statesChecks, lanesChecks};
 use super::joined;
 use super::lane::Lane;
 use super::lane::LaneQuestion;
@@ -23,12 +23,12 @@ use refusal::Fault;
 use refusal::Refusal;
 
 // How many lanes a question has at most.
-pub const LANES: usize = 6;
+pub const MAX_LANES: usize = 6;
 
 // One to six lanes, kept as they were given, and a table: bit t is the answer where t has bit k for each lane k that answers yes.
 #[derive(Clone, Copy)]
 pub struct Compiled {
-    kept: [Lane; LANES],
+    kept: [Lane; MAX_LANES],
     count: usize,
     table: u64,
     ghost six: { length kept ≡ 6 },
@@ -75,18 +75,18 @@ fn check_lanes(lanes: &[Lane], table: u64) -> Result<(), Fault>
     ensures { λ r. ⌜ r ≡ verdict (lanesChecks (now (lanes .entry)) table) ⌝ }
 {
     Refusal::LengthMismatch.unless(!lanes.is_empty(), 0)?;
-    Refusal::TooManyAtoms.unless(lanes.len() <= LANES, LANES)?;
+    Refusal::TooManyAtoms.unless(lanes.len() <= MAX_LANES, MAX_LANES)?;
     check_states(lanes, 1, 0)?;
     Refusal::NumberRange.unless(table_fits(lanes.len(), table), 0)
 }
 
 // The lanes in an array; what stands behind them does not count.
-fn kept(lanes: &[Lane]) -> [Lane; LANES]
+fn padded(lanes: &[Lane]) -> [Lane; MAX_LANES]
     requires { ⌜ length (now lanes) ≤ 6 ⌝ }
     ensures front { λ r. ⌜ take (length (now (lanes .entry))) r ≡ now (lanes .entry) ⌝ }
     ensures six { λ r. ⌜ length r ≡ 6 ⌝ }
 {
-    let mut all = [Lane::Presence(Presence { mask: 0 }); LANES];
+    let mut all = [Lane::Presence(Presence { mask: 0 }); MAX_LANES];
     for (place, lane) in lanes.iter().enumerate() {
         all[place] = *lane;
     }
@@ -100,7 +100,7 @@ impl Compiled {
     {
         check_lanes(lanes, table)?;
         Ok(Compiled {
-            kept: kept(lanes),
+            kept: padded(lanes),
             count: lanes.len(),
             table,
         })
@@ -116,7 +116,7 @@ impl Compiled {
     // The number of the lane at a place in a state: none for an unknown state or a lane that is not there.
     pub fn lane_state(&self, place: usize, state: u32) -> Option<u32>
         ensures value { λ r. ⌜ r ≡ laneStateReply (take (now (self .entry) .count) (now (self .entry) .kept)) place state ⌝ }
-        ensures undone { λ r. ⌜ (state < lanesOf (take (now (self .entry) .count) (now (self .entry) .kept)) .tables .size → numberReply (take (now (self .entry) .count) (now (self .entry) .kept)) (splitNumber (take (now (self .entry) .count) (now (self .entry) .kept)) state) ≡ Some state) ⌝ }
+        ensures undone { λ r. ⌜ ((ns : List ℕ) → length ns ≡ length (take (now (self .entry) .count) (now (self .entry) .kept)) → ((k : ℕ) → k < length ns → laneStateReply (take (now (self .entry) .count) (now (self .entry) .kept)) k state ≡ Some (getD ns k 0)) → numberReply (take (now (self .entry) .count) (now (self .entry) .kept)) ns ≡ Some state) ⌝ }
     {
         joined::lane_state_of(self.lanes(), place, state)
     }
@@ -124,7 +124,7 @@ impl Compiled {
     // The state of one number a lane: none where there are not as many numbers as lanes, and where one is unknown.
     pub fn number(&self, numbers: &[u32]) -> Option<u32>
         ensures value { λ r. ⌜ r ≡ numberReply (take (now (self .entry) .count) (now (self .entry) .kept)) (now (numbers .entry)) ⌝ }
-        ensures undone { λ r. ⌜ ((state : ℕ) → r ≡ Some state → splitNumber (take (now (self .entry) .count) (now (self .entry) .kept)) state ≡ now (numbers .entry)) ⌝ }
+        ensures undone { λ r. ⌜ ((state k : ℕ) → r ≡ Some state → k < length (now (numbers .entry)) → laneStateReply (take (now (self .entry) .count) (now (self .entry) .kept)) k state ≡ Some (getD (now (numbers .entry)) k 0)) ⌝ }
     {
         joined::number_of(self.lanes(), numbers)
     }

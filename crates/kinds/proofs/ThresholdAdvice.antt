@@ -1,11 +1,10 @@
 -- The advice of a threshold, by the rule that finds the leader's partner. Assumes nothing.
 use mathlib.Core.Path.{_≡_, sym, ap, _∙_}
-use mathlib.Core.Bool.{Bool, true, not, _&&_}
+use mathlib.Core.Bool.{Bool, true}
 use mathlib.Core.List.{List, [], _∷_, map}
 use Prim.Native.Nat.{ℕ, _+_, _*_, _<_}
 use native.Mathlib.Omega.{arith}
-use lib.Dec.{ltb}
-use lib.IntN.{ℤ, natAbs}
+use lib.IntN.{ℤ}
 use lib.ListN.{length, getD}
 use lib.Signed.{ltZ}
 use Rattle.std.proofs.shelf.Lists.{getD-map}
@@ -15,7 +14,7 @@ use Rattle.protocol.specs.declared.Advice.the-variants.{Meet, Settled, Lost}
 use Rattle.protocol.specs.Places.{lowest, stateAt, other, firstFit, paired, led}
 use Rattle.protocol.specs.Protocols.{stateRead, allowedUnit, adviceReply}
 use Rattle.protocol.specs.Sums.{leadPart}
-use Rattle.protocol.specs.Threshold.{spanOf, fieldsOf, opposes, isZero, unheard, partnerRules, thresholdProtocol}
+use Rattle.protocol.specs.Threshold.{spanOf, fieldsOf, opposes, unjoined, unheard, partnerRules, thresholdProtocol}
 use Rattle.question.specs.Tested.{lowestRead}
 use Rattle.kinds.proofs.Led.{fit-here, fit-later, found-within}
 
@@ -23,8 +22,8 @@ use Rattle.kinds.proofs.Led.{fit-here, fit-later, found-within}
 abbrev opposed : ℕ → ℤ → ℕ → ℕ → ℕ → Bool
 opposed s v here place state = other here (λ _. opposes v (fieldsOf s state .value)) place
 
-abbrev unjoined : ℕ → ℤ → ℕ → ℕ → ℕ → Bool
-unjoined s v here place state = other here (λ _. ltb (natAbs v) s && not (isZero (fieldsOf s state .value))) place
+abbrev joinable : ℕ → ℤ → ℕ → ℕ → ℕ → Bool
+joinable s v here place state = other here (λ _. unjoined s v (fieldsOf s state .value)) place
 
 abbrev unheardBy : ℤ → ℕ → ℤ → ℕ → ℕ → ℕ → Bool
 unheardBy bound s v here place state = other here (λ _. unheard (ltZ v bound) (fieldsOf s state)) place
@@ -69,7 +68,7 @@ module _ (ks : List ℤ) (bound : ℤ) (words : List ℕ) (unit u z s here : ℕ
   first place = opposed (spanOf ks bound) value here place (stateAt states place)
 
   abbrev second : ℕ → Bool
-  second place = unjoined (spanOf ks bound) value here place (stateAt states place)
+  second place = joinable (spanOf ks bound) value here place (stateAt states place)
 
   abbrev third : ℕ → Bool
   third place = unheardBy bound (spanOf ks bound) value here place (stateAt states place)
@@ -85,26 +84,26 @@ module _ (ks : List ℤ) (bound : ℤ) (words : List ℕ) (unit u z s here : ℕ
   not-first : None ≡ lowestRead (opposed s v here) u z words → firstFit (first ∷ second ∷ third ∷ []) n ≡ firstFit (second ∷ third ∷ []) n
   not-first e = fit-later first (second ∷ third ∷ []) n (e ∙ same-test opposed)
 
-  not-second : None ≡ lowestRead (unjoined s v here) u z words → firstFit (second ∷ third ∷ []) n ≡ firstFit (third ∷ []) n
-  not-second e = fit-later second (third ∷ []) n (e ∙ same-test unjoined)
+  not-second : None ≡ lowestRead (joinable s v here) u z words → firstFit (second ∷ third ∷ []) n ≡ firstFit (third ∷ []) n
+  not-second e = fit-later second (third ∷ []) n (e ∙ same-test joinable)
 
   pub by-first : (k : ℕ) → Some k ≡ lowestRead (opposed s v here) u z words → Meet here k ≡ adviceReply (thresholdProtocol ks bound) words unit
   by-first k e = sym (reply ∙ ap (paired (Some here)) (fit-here first (second ∷ third ∷ []) n k (e ∙ same-test opposed)))
 
-  pub by-second : (k : ℕ) → None ≡ lowestRead (opposed s v here) u z words → Some k ≡ lowestRead (unjoined s v here) u z words
+  pub by-second : (k : ℕ) → None ≡ lowestRead (opposed s v here) u z words → Some k ≡ lowestRead (joinable s v here) u z words
       → Meet here k ≡ adviceReply (thresholdProtocol ks bound) words unit
-  by-second k none e = sym (reply ∙ ap (paired (Some here)) (not-first none ∙ fit-here second (third ∷ []) n k (e ∙ same-test unjoined)))
+  by-second k none e = sym (reply ∙ ap (paired (Some here)) (not-first none ∙ fit-here second (third ∷ []) n k (e ∙ same-test joinable)))
 
   -- the third test has the bound after a cast
   same-third : (b : ℤ) → b ≡ bound → lowestRead (unheardBy b s v here) u z words ≡ lowest third n
   same-third b e = ap (λ x. lowestRead (unheardBy x s v here) u z words) e ∙ same-test (unheardBy bound)
 
-  pub by-third : (b : ℤ) → b ≡ bound → (k : ℕ) → None ≡ lowestRead (opposed s v here) u z words → None ≡ lowestRead (unjoined s v here) u z words
+  pub by-third : (b : ℤ) → b ≡ bound → (k : ℕ) → None ≡ lowestRead (opposed s v here) u z words → None ≡ lowestRead (joinable s v here) u z words
       → Some k ≡ lowestRead (unheardBy b s v here) u z words → Meet here k ≡ adviceReply (thresholdProtocol ks bound) words unit
   by-third b same k none joined e =
       sym (reply ∙ ap (paired (Some here)) (not-first none ∙ not-second joined ∙ fit-here third [] n k (e ∙ same-third b same)))
 
-  pub by-none : (b : ℤ) → b ≡ bound → None ≡ lowestRead (opposed s v here) u z words → None ≡ lowestRead (unjoined s v here) u z words
+  pub by-none : (b : ℤ) → b ≡ bound → None ≡ lowestRead (opposed s v here) u z words → None ≡ lowestRead (joinable s v here) u z words
       → None ≡ lowestRead (unheardBy b s v here) u z words → Settled ≡ adviceReply (thresholdProtocol ks bound) words unit
   by-none b same none joined heard =
       sym (reply ∙ ap (paired (Some here)) (not-first none ∙ not-second joined ∙ fit-later third [] n (heard ∙ same-third b same)))

@@ -6,22 +6,13 @@ use native.Mathlib.Omega.{arith}
 use lib.IntN.{ℤ, pos, negsuc, natAbs, negℤ, _+ℤ_, _-ℤ_}
 use lib.Signed.{ltZ, _≤ℤ_}
 use mir.Syntax.{w32}
-use mir.Val.{SFits, ofZ, toZ, boolByte}
+use mir.Val.{SFits, ofZ, toZ}
 use Rattle.std.specs.Numbers.{maxZ, minZ}
 use Rattle.std.proofs.shelf.Ways.{tells}
 use Rattle.std.proofs.shelf.Tests.{cond-true}
 use Rattle.std.proofs.shelf.Signed.{ints}
 use Rattle.protocol.specs.declared.Fields.{Fields}
-use Rattle.protocol.specs.Joining.{oneIf}
 use Rattle.protocol.specs.Threshold.{numberOf, held, metFields}
-
-pub byte-is : (b : Bool) → boolByte b ≡ oneIf b
-byte-is true = refl
-byte-is false = refl
-
-pub byte-most : (b : Bool) → boolByte b ≤ 1
-byte-most true = omega arith
-byte-most false = omega arith
 
 -- a small number is what it was after a cast
 pub cast-same : (z : ℤ) → natAbs z ≤ 4000 → toZ w32 (ofZ w32 z) ≡ z

@@ -1,7 +1,7 @@
 -- The replies of a threshold by its fields. Assumes nothing.
 use mathlib.Core.Path.{_≡_, sym, ap, _∙_}
 use mathlib.Core.Logic.{⊎-elim}
-use mathlib.Core.Bool.{true, false, _||_}
+use mathlib.Core.Bool.{Bool, true, false, _||_}
 use mathlib.Core.List.{List}
 use Prim.Native.Nat.{ℕ, _+_, _*_, _/_, _≤_, _<_}
 use native.Mathlib.Omega.{arith}
@@ -19,21 +19,22 @@ use Rattle.protocol.proofs.ThresholdFields.{number-fields, number-same}
 use Rattle.kinds.specs.Numbers.{thresholdFields, thresholdNumber}
 
 -- a known state has its fields, and they have its number
-pub fields-contract : (s state : ℕ) (v : ℤ) → state < 4 * (2 * s + 1) → v ≡ pos (state / 4) -ℤ pos s
-    → (_≡_ {A = Option (Fields ℤ)} (Some (record { lead = leadPart state; bit = bitPart state; value = v })) (thresholdFields s state))
-    × ((f : Fields ℤ) → _≡_ {A = Option (Fields ℤ)} (Some (record { lead = leadPart state; bit = bitPart state; value = v })) (Some f) → thresholdNumber s f ≡ Some state)
-fields-contract s state v known e =
-    let same : _≡_ {A = Fields ℤ} (record { lead = leadPart state; bit = bitPart state; value = v }) (fieldsOf s state) =
-    ap (λ z. record { lead = leadPart state; bit = bitPart state; value = z }) e in
+pub fields-contract : (s state : ℕ) (lead bit : Bool) (v : ℤ) → state < 4 * (2 * s + 1) → lead ≡ leadPart state → bit ≡ bitPart state → v ≡ pos (state / 4) -ℤ pos s
+    → (_≡_ {A = Option (Fields ℤ)} (Some (record { lead = lead; bit = bit; value = v })) (thresholdFields s state))
+    × ((f : Fields ℤ) → _≡_ {A = Option (Fields ℤ)} (Some (record { lead = lead; bit = bit; value = v })) (Some f) → thresholdNumber s f ≡ Some state)
+fields-contract s state lead bit v known l b e =
+    let same : _≡_ {A = Fields ℤ} (record { lead = lead; bit = bit; value = v }) (fieldsOf s state) =
+      ap (λ x. record { lead = x; bit = bit; value = v }) l
+      ∙ ap (λ x. record { lead = leadPart state; bit = x; value = v }) b
+      ∙ ap (λ z. record { lead = leadPart state; bit = bitPart state; value = z }) e in
     let within : natAbs (fieldsOf s state .value) ≤ s = omega (arith, ints) in
     let number : thresholdNumber s (fieldsOf s state) ≡ Some state =
-    cond-true (leb (natAbs (fieldsOf s state .value)) s) (Some (numberOf s (fieldsOf s state))) None (le-leb (natAbs (fieldsOf s state .value)) s within)
-    ∙ ap (λ x. Some x) (number-fields s state known) in (
-      ap (λ f. Some f) same ∙ sym (cond-true (ltb state (4 * (2 * s + 1))) (Some (fieldsOf s state)) None (lt-ltb state (4 * (2 * s + 1)) known)),
-      (λ f made.
-          let is : _≡_ {A = Fields ℤ} (record { lead = leadPart state; bit = bitPart state; value = v }) f = cc in
-          ap (thresholdNumber s) (sym is ∙ same) ∙ number),
-    )
+      cond-true (leb (natAbs (fieldsOf s state .value)) s) (Some (numberOf s (fieldsOf s state))) None (le-leb (natAbs (fieldsOf s state .value)) s within)
+      ∙ ap (λ x. Some x) (number-fields s state known) in
+    (ap (λ f. Some f) same ∙ sym (cond-true (ltb state (4 * (2 * s + 1))) (Some (fieldsOf s state)) None (lt-ltb state (4 * (2 * s + 1)) known)),
+     (λ f made.
+       let is : _≡_ {A = Fields ℤ} (record { lead = lead; bit = bit; value = v }) f = cc in
+       ap (thresholdNumber s) (sym is ∙ same) ∙ number))
 
 -- a state with fields is known, and they are its fields
 pub fields-some : (s state : ℕ) (f : Fields ℤ) → thresholdFields s state ≡ Some f → (ltb state (4 * (2 * s + 1)) ≡ true) × (f ≡ fieldsOf s state)

@@ -9,16 +9,18 @@ use Rattle.protocol.specs.declared.Fields.{Fields}
 use Rattle.protocol.specs.Threshold as threshold
 use Rattle.protocol.specs.Remainder as remainder
 
--- of a threshold with values from -s to s
+-- the fields in a number of a threshold with values from -s to s
 abbrev pub thresholdFields : ℕ → ℕ → Option (Fields ℤ)
 thresholdFields s state = cond (ltb state (4 * (2 * s + 1))) (Some (threshold.fieldsOf s state)) None
 
+-- the number of its fields
 abbrev pub thresholdNumber : ℕ → Fields ℤ → Option ℕ
 thresholdNumber s f = cond (leb (natAbs (f .value)) s) (Some (threshold.numberOf s f)) None
 
--- of a remainder with values below the modulus
+-- the fields in a number of a remainder with values below the modulus
 abbrev pub remainderFields : ℕ → ℕ → Option (Fields ℕ)
 remainderFields modulus state = cond (ltb state (4 * modulus)) (Some (remainder.fieldsOf state)) None
 
+-- the number of its fields
 abbrev pub remainderNumber : ℕ → Fields ℕ → Option ℕ
 remainderNumber modulus f = cond (ltb (f .value) modulus) (Some (remainder.numberOf f)) None

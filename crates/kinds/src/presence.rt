@@ -8,6 +8,7 @@ use question::Question;
 use question::digit::Digit;
 use question::digit::Test;
 use question::states::bit_at;
+use reading::SYMBOLS;
 use reading::Symbol;
 
 // The symbols that are looked for: bit i of the mask for symbol i.
@@ -40,7 +41,7 @@ pub impl Question for Presence as PresenceQuestion {
     }
 
     fn start(&self, symbol: Symbol) -> u32 {
-        u32::from(symbol.0 < 8 && bit_at(u64::from(self.mask), u32::from(symbol.0)))
+        u32::from(usize::from(symbol.0) < SYMBOLS && bit_at(u64::from(self.mask), u32::from(symbol.0)))
     }
 
     fn answer(&self, state: u32) -> bool {

@@ -4,7 +4,7 @@ ghost use mathlib.Core.Bool.{Bool, true};
 ghost use Prim.Native.Nat.{ℕ, _<_};
 ghost use lib.ListN.{length};
 ghost use Rattle.protocol.specs.Places.{other};
-ghost use Rattle.protocol.specs.Remainder.{reduced, numberOf, fieldsOf, remainder};
+ghost use Rattle.protocol.specs.Remainder.{reduced, remainder};
 ghost use Rattle.protocol.specs.Sums.{coefficientOf, leadPart, bitPart, differs};
 ghost use Rattle.protocol.specs.declared.Fields.{Fields};
 ghost use Rattle.refusal.specs.Checks.{verdict};
@@ -12,9 +12,12 @@ ghost use Rattle.std.specs.declared.option.Option.the-variants.{Some};
 ghost use Rattle.std.specs.declared.result.Result.the-variants.{Ok, Err};
 ghost use Rattle.kinds.specs.Ranges.{remainderFits, numbersChecks};
 ghost use Rattle.kinds.specs.Numbers.{remainderFields, remainderNumber};
-use super::numbers::Leads;
-use super::numbers::LeadsTest;
+use super::numbers::Leading;
+use super::numbers::LeadingTest;
+use super::numbers::bit_of;
 use super::numbers::coefficients_fit;
+use super::numbers::leads;
+use super::numbers::pack;
 use protocol::Advice;
 use protocol::Fields;
 use question::Question;
@@ -25,8 +28,11 @@ use reading::Symbol;
 use refusal::Fault;
 use refusal::Refusal;
 
+// What a modulus is at most.
+const MAX_MODULUS: u32 = 999;
+
 // The coefficients are kept as they were given; a tag starts with what they leave modulo the modulus.
-#[derive(Clone, Copy)]
+#[derive(Clone, Copy, PartialEq, Eq, Debug)]
 pub struct Remainder {
     coefficients: [i32; SYMBOLS],
     modulus: u32,
@@ -52,7 +58,7 @@ impl Test for AlsoLeads as AlsoLeadsTest {
     ghost passes = { λ t place state. other (t .leader) (λ _. leadPart state) place };
 
     fn passes_at(&self, place: usize, state: u32) -> bool {
-        place != self.leader && state / 2 % 2 == 1
+        place != self.leader && leads(state)
     }
 }
 
@@ -60,16 +66,8 @@ impl Test for Unheard as UnheardTest {
     ghost passes = { λ t place state. other (t .leader) (λ _. differs (t .bit) (bitPart state)) place };
 
     fn passes_at(&self, place: usize, state: u32) -> bool {
-        place != self.leader && (state % 2 == 1) != self.bit
+        place != self.leader && bit_of(state) != self.bit
     }
-}
-
-// The number of fields.
-fn packed(fields: Fields<u32>) -> u32
-    requires { ⌜ fields .value < 1000 ⌝ }
-    ensures { λ r. ⌜ r ≡ numberOf fields ⌝ }
-{
-    fields.value * 4 + 2 * u32::from(fields.lead) + u32::from(fields.bit)
 }
 
 impl Remainder {
@@ -78,7 +76,7 @@ impl Remainder {
         ensures { λ r. ⌜ elim r [ Ok q ↦ (verdict (numbersChecks (remainderFits coefficients modulus residue)) ≡ Ok tt) × (q .coefficients ≡ coefficients) × (q .modulus ≡ modulus) × (q .residue ≡ residue) | Err f ↦ verdict (numbersChecks (remainderFits coefficients modulus residue)) ≡ Err f ] ⌝ }
     {
         let fit = coefficients_fit(&coefficients)
-            && 2 <= modulus
+            && modulus >= 2
             && modulus <= 999
             && residue < modulus;
         Refusal::NumberRange.unless(fit, 0)?;
@@ -89,6 +87,24 @@ impl Remainder {
         })
     }
 
+    pub fn coefficients(&self) -> [i32; SYMBOLS]
+        ensures { λ r. ⌜ r ≡ now (self .entry) .coefficients ⌝ }
+    {
+        self.coefficients
+    }
+
+    pub fn modulus(&self) -> u32
+        ensures { λ r. ⌜ r ≡ now (self .entry) .modulus ⌝ }
+    {
+        self.modulus
+    }
+
+    pub fn residue(&self) -> u32
+        ensures { λ r. ⌜ r ≡ now (self .entry) .residue ⌝ }
+    {
+        self.residue
+    }
+
     // The fields in a state number; none for an unknown one.
     pub fn fields(&self, state: u32) -> Option<Fields<u32>>
         ensures value { λ r. ⌜ r ≡ remainderFields (now (self .entry) .modulus) state ⌝ }
@@ -96,8 +112,8 @@ impl Remainder {
     {
         if u64::from(state) < self.size() {
             Some(Fields {
-                lead: state / 2 % 2 == 1,
-                bit: state % 2 == 1,
+                lead: leads(state),
+                bit: bit_of(state),
                 value: state / 4,
             })
         } else {
@@ -111,7 +127,7 @@ impl Remainder {
         ensures undone { λ r. ⌜ ((state : ℕ) → r ≡ Some state → remainderFields (now (self .entry) .modulus) state ≡ Some fields) ⌝ }
     {
         if fields.value < self.modulus {
-            Some(packed(fields))
+            Some(pack(fields.value, fields.lead, fields.bit))
         } else {
             None
         }
@@ -144,15 +160,11 @@ pub impl Question for Remainder as RemainderQuestion {
             return 0;
         }
         let value = self.reduced_at(symbol);
-        packed(Fields {
-            lead: true,
-            bit: value == self.residue,
-            value,
-        })
+        pack(value, true, value == self.residue)
     }
 
     fn answer(&self, state: u32) -> bool {
-        u64::from(state) < self.size() && state % 2 == 1
+        u64::from(state) < self.size() && bit_of(state)
     }
 
     fn meet(&self, first: u32, second: u32) -> (u32, u32) {
@@ -164,17 +176,7 @@ pub impl Question for Remainder as RemainderQuestion {
         }
         let value = (a.value + b.value) % self.modulus;
         let bit = value == self.residue;
-        let first = Fields {
-            lead: true,
-            bit,
-            value,
-        };
-        let second = Fields {
-            lead: false,
-            bit,
-            value: 0,
-        };
-        (packed(first), packed(second))
+        (pack(value, true, bit), pack(0, false, bit))
     }
 
     fn weight(&self) -> u64 {
@@ -185,7 +187,7 @@ pub impl Question for Remainder as RemainderQuestion {
         let Some(digit) = Digit::new(unit, self.size()) else {
             return Advice::Lost;
         };
-        let Some(leader) = digit.lowest(words, &Leads) else {
+        let Some(leader) = digit.lowest(words, &Leading) else {
             return Advice::Lost;
         };
         if let Some(partner) = digit.lowest(words, &AlsoLeads { leader }) {

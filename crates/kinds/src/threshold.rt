@@ -1,34 +1,38 @@
 // Threshold: is the sum of the coefficients over the tags below a bound?
 ghost use mathlib.Core.Path.{_≡_};
-ghost use mathlib.Core.Bool.{Bool, true, not, _&&_, _||_};
+ghost use mathlib.Core.Bool.{Bool, true, _||_};
 ghost use Prim.Native.Nat.{ℕ, _≤_, _<_};
-ghost use lib.Dec.{eqb, ltb};
 ghost use lib.IntN.{natAbs};
 ghost use lib.ListN.{length};
 ghost use lib.Signed.{ltZ};
 ghost use Rattle.protocol.specs.Places.{other};
-ghost use Rattle.protocol.specs.Threshold.{largest, spanOf, numberOf, fieldsOf, metFields, opposes, isZero, unheard, threshold};
+ghost use Rattle.protocol.specs.Threshold.{largest, spanOf, numberOf, fieldsOf, metFields, opposes, unjoined, unheard, threshold};
 ghost use Rattle.refusal.specs.Checks.{verdict};
 ghost use Rattle.std.specs.declared.option.Option.the-variants.{Some};
 ghost use Rattle.std.specs.declared.result.Result.the-variants.{Ok, Err};
 ghost use Rattle.kinds.specs.Ranges.{thresholdFits, numbersChecks};
 ghost use Rattle.kinds.specs.Numbers.{thresholdFields, thresholdNumber};
-use super::numbers::Leads;
-use super::numbers::LeadsTest;
+use super::numbers::Leading;
+use super::numbers::LeadingTest;
+use super::numbers::bit_of;
 use super::numbers::coefficients_fit;
+use super::numbers::leads;
+use super::numbers::pack;
 use protocol::Advice;
 use protocol::Fields;
 use question::Question;
 use question::digit::Digit;
 use question::digit::Test;
-use question::states::allowed;
 use reading::SYMBOLS;
 use reading::Symbol;
 use refusal::Fault;
 use refusal::Refusal;
 
+// How far a bound is from 0 at most.
+const MAX_BOUND: u32 = 999;
+
 // The tags of a threshold hold values from -span to span: room for each coefficient, and for a sum on either side of the bound.
-#[derive(Clone, Copy)]
+#[derive(Clone, Copy, PartialEq, Eq, Debug)]
 pub struct Threshold {
     coefficients: [i32; SYMBOLS],
     bound: i32,
@@ -77,7 +81,7 @@ impl Test for Opposed as OpposedTest {
 }
 
 impl Test for Unjoined as UnjoinedTest {
-    ghost passes = { λ t place state. other (t .0 .place) (λ _. ltb (natAbs (t .0 .value)) (t .0 .span) && not (isZero (fieldsOf (t .0 .span) state .value))) place };
+    ghost passes = { λ t place state. other (t .0 .place) (λ _. unjoined (t .0 .span) (t .0 .value) (fieldsOf (t .0 .span) state .value)) place };
 
     fn passes_at(&self, place: usize, state: u32) -> bool {
         place != self.0.place
@@ -91,7 +95,7 @@ impl Test for Unheard as UnheardTest {
 
     fn passes_at(&self, place: usize, state: u32) -> bool {
         let bit = self.0.value < i64::from(self.0.bound);
-        place != self.0.place && (state / 2 % 2 == 1 || (state % 2 == 1) != bit)
+        place != self.0.place && (leads(state) || bit_of(state) != bit)
     }
 }
 
@@ -111,7 +115,7 @@ impl Threshold {
     pub fn new(coefficients: [i32; SYMBOLS], bound: i32) -> Result<Threshold, Fault>
         ensures { λ r. ⌜ elim r [ Ok q ↦ (verdict (numbersChecks (thresholdFits coefficients bound)) ≡ Ok tt) × (q .coefficients ≡ coefficients) × (q .bound ≡ bound) | Err f ↦ verdict (numbersChecks (thresholdFits coefficients bound)) ≡ Err f ] ⌝ }
     {
-        let fit = coefficients_fit(&coefficients) && bound.unsigned_abs() <= 999;
+        let fit = coefficients_fit(&coefficients) && bound.unsigned_abs() <= MAX_BOUND;
         Refusal::NumberRange.unless(fit, 0)?;
         let span = largest_of(&coefficients).max(bound.unsigned_abs() + 1);
         Ok(Threshold {
@@ -121,6 +125,18 @@ impl Threshold {
         })
     }
 
+    pub fn coefficients(&self) -> [i32; SYMBOLS]
+        ensures { λ r. ⌜ r ≡ now (self .entry) .coefficients ⌝ }
+    {
+        self.coefficients
+    }
+
+    pub fn bound(&self) -> i32
+        ensures { λ r. ⌜ r ≡ now (self .entry) .bound ⌝ }
+    {
+        self.bound
+    }
+
     // The fields in a state number; none for an unknown one.
     pub fn fields(&self, state: u32) -> Option<Fields<i32>>
         ensures value { λ r. ⌜ r ≡ thresholdFields (spanOf (now (self .entry) .coefficients) (now (self .entry) .bound)) state ⌝ }
@@ -128,8 +144,8 @@ impl Threshold {
     {
         if u64::from(state) < self.size() {
             Some(Fields {
-                lead: state / 2 % 2 == 1,
-                bit: state % 2 == 1,
+                lead: leads(state),
+                bit: bit_of(state),
                 value: (state / 4) as i32 - self.span as i32,
             })
         } else {
@@ -153,7 +169,7 @@ impl Threshold {
         ensures { λ r. ⌜ r ≡ numberOf (now (self .entry) .span) fields ⌝ }
     {
         let value = (fields.value + self.span as i32) as u32;
-        value * 4 + 2 * u32::from(fields.lead) + u32::from(fields.bit)
+        pack(value, fields.lead, fields.bit)
     }
 
     // The meeting of two tags of which one leads.
@@ -207,7 +223,7 @@ pub impl Question for Threshold as ThresholdQuestion {
     }
 
     fn answer(&self, state: u32) -> bool {
-        u64::from(state) < self.size() && state % 2 == 1
+        u64::from(state) < self.size() && bit_of(state)
     }
 
     fn meet(&self, first: u32, second: u32) -> (u32, u32) {
@@ -229,7 +245,7 @@ pub impl Question for Threshold as ThresholdQuestion {
         let Some(digit) = Digit::new(unit, self.size()) else {
             return Advice::Lost;
         };
-        let Some(place) = digit.lowest(words, &Leads) else {
+        let Some(place) = digit.lowest(words, &Leading) else {
             return Advice::Lost;
         };
         let leader = Leader {

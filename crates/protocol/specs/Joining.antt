@@ -35,9 +35,11 @@ unlessSettled Lost then = Lost
 abbrev pub joined : ℕ → ℕ → ℕ → ℕ
 joined base left right = left * base + right
 
+-- the left number
 abbrev pub leftOf : ℕ → ℕ → ℕ
 leftOf base state = state / base
 
+-- the right number
 abbrev pub rightOf : ℕ → ℕ → ℕ
 rightOf base state = state % base
 

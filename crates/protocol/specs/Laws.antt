@@ -1,5 +1,6 @@
 -- What every question owes: from all that meetings can leave, its advice settles the load, and a settled load answers the truth. Assumes nothing.
 use mathlib.Core.List.{List, map}
+use mathlib.Core.Bool.{true}
 use mathlib.Core.Path.{_≡_}
 use Prim.Native.Nat.{ℕ, suc, _*_, _-_, _^_, _≤_, _<_}
 use lib.ListN.{length}
@@ -8,8 +9,8 @@ use Rattle.reading.specs.Counting.{countsOf}
 use Rattle.reading.specs.declared.Symbol.{Symbol}
 use Rattle.protocol.specs.declared.Advice.{Advice}
 use Rattle.protocol.specs.declared.Advice.the-variants.{Meet, Settled}
-use Rattle.protocol.specs.Protocols.{Tables, Protocol}
-use Rattle.protocol.specs.Places.{Apart, meeting, stateAt}
+use Rattle.protocol.specs.Protocols.{Tables, Protocol, stateRead, allowedUnit, adviceReply}
+use Rattle.protocol.specs.Places.{Apart, Advised, meeting, stateAt}
 
 -- the readings of a load: 1 to 1,024 tags, each with a symbol from 0 to 7
 pub record Readings (symbols : List Symbol) : Type 0 where
@@ -42,7 +43,7 @@ pub record Stable {A : Type 0} (p : Protocol A) (symbols : List Symbol) (states 
   pub stays : p .next states ≡ Settled → (first second : ℕ) → Apart (length symbols) first second
       → p .next (meeting (p .tables .meet) states first second) ≡ Settled
 
--- the laws of a protocol. They speak of states: what is owed of words and a unit follows, since the advice on words is that on the states read in them
+-- the laws of a protocol. They speak of states; what they say of words and a unit is stated last, and follows
 pub record Lawful {A : Type 0} (p : Protocol A) : Type 0 where
   pub size-fits : p .tables .size ≤ 2 ^ 32
   pub weight-fits : p .weight ≤ 65536 * (p .tables .size - 1)
@@ -54,3 +55,18 @@ pub record Lawful {A : Type 0} (p : Protocol A) : Type 0 where
   -- wherever the meetings of a load leave it
   pub stable : (symbols : List Symbol) (states : List ℕ) → 0 < p .tables .size → Readings symbols
       → Reached (p .tables .start) (p .tables .meet) symbols states → Stable p symbols states
+
+-- the same of words in which a unit reads states that a load with these symbols can come to
+pub record Stable-words {A : Type 0} (p : Protocol A) (symbols : List Symbol) (words : List ℕ) (unit : ℕ) : Type 0 where
+  -- the advice is that on the states read
+  pub read : adviceReply p words unit ≡ p .next (map (stateRead unit (p .tables .size)) words)
+  -- it names two different places of the load, or is Settled
+  pub advised : Advised (length symbols) (adviceReply p words unit)
+  -- and the states read are settled by it, answer the truth where it is Settled, and stay so
+  pub stable : Stable p symbols (map (stateRead unit (p .tables .size)) words)
+
+-- of all words that an allowed unit reads as states that a load can come to
+abbrev pub Lawful-on-words : {A : Type 0} → Protocol A → Type 0
+Lawful-on-words p =
+    (symbols : List Symbol) (words : List ℕ) (unit : ℕ) → allowedUnit unit (p .tables .size) ≡ true → Readings symbols
+    → Reached (p .tables .start) (p .tables .meet) symbols (map (stateRead unit (p .tables .size)) words) → Stable-words p symbols words unit

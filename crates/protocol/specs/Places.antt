@@ -26,6 +26,12 @@ pub record Apart (n first second : ℕ) : Type 0 where
   pub second-within : second < n
   pub differ : first ≡ second → ⊥
 
+-- what advice has to be for a load of n tags that meetings have left: it names two of its places, or nobody has to meet, and it is never Lost
+abbrev pub Advised : ℕ → Advice → Type 0
+Advised n (Meet first second) = Apart n first second
+Advised n Settled = Unit {0}
+Advised n Lost = ⊥
+
 -- the lowest of the n places 0 to n - 1 that passes a test, if one does
 unfoldable pub lowest : (ℕ → Bool) → ℕ → Option ℕ
 lowest test zero = None

@@ -20,6 +20,7 @@ nextOf states =
     let n : ℕ = length states in
     paired (lowest (λ place. eqb (stateAt states place) 1) n) (lowest (λ place. eqb (stateAt states place) 0) n)
 
+-- the whole, by a mask with bit i for symbol i
 abbrev pub presenceProtocol : ℕ → Protocol Bool
 presenceProtocol mask = record {
   tables = record {
@@ -33,5 +34,6 @@ presenceProtocol mask = record {
   truth = presentFrom mask 0;
 }
 
+-- the question (P)
 abbrev pub presence : ℕ → Meaning
 presence mask = record { kind = 80; protocol = presenceProtocol mask }

@@ -24,7 +24,7 @@ fieldsOf state = record { lead = leadPart state; bit = bitPart state; value = va
 abbrev pub reduced : ℕ → ℤ → ℕ
 reduced modulus k = natAbs (remEuclid k (pos modulus))
 
--- a meeting: where one of the two leads, the first takes both values, the second none, and both the first's bit
+-- a meeting: where either leads, the first takes both values, the second none, and both the first's bit
 abbrev pub metFields : ℕ → ℕ → Fields ℕ → Fields ℕ → Fields ℕ × Fields ℕ
 metFields modulus residue a b =
     let kept : ℕ = (a .value + b .value) % modulus in
@@ -39,17 +39,20 @@ partnerRules residue tag leader =
     ∷ other leader (λ place. differs (eqb (tag leader .value) residue) (tag place .bit))
     ∷ []
 
+-- the advice: the lowest tag that leads meets the partner that the rules name
 abbrev pub nextOf : ℕ → List ℕ → Advice
 nextOf residue states =
     let tag : ℕ → Fields ℕ = λ place. fieldsOf (stateAt states place) in
     let n : ℕ = length states in
     led (lowest (λ place. tag place .lead) n) (partnerRules residue tag) n
 
+-- what a tag with this symbol starts with
 abbrev pub startFields : List ℤ → ℕ → ℕ → ℕ → Fields ℕ
 startFields coefficients modulus residue symbol =
     let u : ℕ = reduced modulus (coefficientOf coefficients symbol) in
     record { lead = true; bit = eqb u residue; value = u }
 
+-- the whole, by a coefficient for each symbol, a modulus and a residue
 abbrev pub remainderProtocol : List ℤ → ℕ → ℕ → Protocol Bool
 remainderProtocol coefficients modulus residue = record {
   tables = record {
@@ -65,5 +68,6 @@ remainderProtocol coefficients modulus residue = record {
   truth = λ counts. eqb (natAbs (weighed coefficients counts -ℤ pos residue) % modulus) 0;
 }
 
+-- the question (R)
 abbrev pub remainder : List ℤ → ℕ → ℕ → Meaning
 remainder coefficients modulus residue = record { kind = 82; protocol = remainderProtocol coefficients modulus residue }

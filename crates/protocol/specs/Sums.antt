@@ -5,7 +5,6 @@ use Prim.Native.Nat.{ℕ, _+_, _*_, _/_, _%_}
 use lib.Dec.{eqb}
 use lib.IntN.{ℤ, pos, _+ℤ_, _*ℤ_}
 use lib.ListN.{getD}
-use Rattle.protocol.specs.declared.Fields.{Fields}
 use Rattle.protocol.specs.Joining.{oneIf}
 
 -- the coefficient of a symbol
@@ -22,15 +21,18 @@ weighed (k ∷ ks) (n ∷ ns) = (k *ℤ pos n) +ℤ weighed ks ns
 abbrev pub differs : Bool → Bool → Bool
 differs a b = cond a (not b) b
 
--- a value's number, a lead and a bit in one number, and the parts again
+-- a value's number, a lead and a bit in one number
 abbrev pub packed : ℕ → Bool → Bool → ℕ
 packed value lead bit = value * 4 + 2 * oneIf lead + oneIf bit
 
+-- the value's number
 abbrev pub valuePart : ℕ → ℕ
 valuePart state = state / 4
 
+-- the lead
 abbrev pub leadPart : ℕ → Bool
 leadPart state = eqb (state / 2 % 2) 1
 
+-- the bit
 abbrev pub bitPart : ℕ → Bool
 bitPart state = eqb (state % 2) 1

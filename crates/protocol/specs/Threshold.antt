@@ -37,7 +37,7 @@ fieldsOf s state = record {
 abbrev pub held : ℕ → ℤ → ℤ
 held s z = cond (ltZ z (negℤ (pos s))) (negℤ (pos s)) (cond (ltZ (pos s) z) (pos s) z)
 
--- a meeting: where one of the two leads, the first takes as much of both values as it can hold, the second the rest, and both the first's bit
+-- a meeting: where either leads, the first takes as much of both values as it can hold, the second the rest, and both the first's bit
 abbrev pub metFields : ℕ → ℤ → Fields ℤ → Fields ℤ → Fields ℤ × Fields ℤ
 metFields s bound a b =
     let sum : ℤ = (a .value) +ℤ (b .value) in
@@ -46,12 +46,17 @@ metFields s bound a b =
     (record { lead = true; bit = ltZ kept bound; value = kept }, record { lead = false; bit = ltZ kept bound; value = sum -ℤ kept })
     (a, b)
 
+-- the number is 0
 abbrev pub isZero : ℤ → Bool
 isZero z = eqb (natAbs z) 0
 
 -- v has the opposite sign of u, or u is 0 and v is not
 abbrev pub opposes : ℤ → ℤ → Bool
 opposes u v = (ltZ u (pos 0) && ltZ (pos 0) v) || ((ltZ (pos 0) u && ltZ v (pos 0)) || (isZero u && not (isZero v)))
+
+-- v is not 0, and a leader with the value u can hold more
+abbrev pub unjoined : ℕ → ℤ → ℤ → Bool
+unjoined s u v = ltb (natAbs u) s && not (isZero v)
 
 -- a tag that leads, or whose bit is not this one
 abbrev pub unheard : Bool → Fields ℤ → Bool
@@ -62,21 +67,24 @@ abbrev pub partnerRules : ℕ → ℤ → (ℕ → Fields ℤ) → ℕ → List 
 partnerRules s bound tag leader =
     let u : ℤ = tag leader .value in
     other leader (λ place. opposes u (tag place .value))
-    ∷ other leader (λ place. ltb (natAbs u) s && not (isZero (tag place .value)))
+    ∷ other leader (λ place. unjoined s u (tag place .value))
     ∷ other leader (λ place. unheard (ltZ u bound) (tag place))
     ∷ []
 
+-- the advice: the lowest tag that leads meets the partner that the rules name
 abbrev pub nextOf : ℕ → ℤ → List ℕ → Advice
 nextOf s bound states =
     let tag : ℕ → Fields ℤ = λ place. fieldsOf s (stateAt states place) in
     let n : ℕ = length states in
     led (lowest (λ place. tag place .lead) n) (partnerRules s bound tag) n
 
+-- what a tag with this symbol starts with
 abbrev pub startFields : List ℤ → ℤ → ℕ → Fields ℤ
 startFields coefficients bound symbol =
     let k : ℤ = coefficientOf coefficients symbol in
     record { lead = true; bit = ltZ k bound; value = k }
 
+-- the whole, by a coefficient for each symbol and a bound
 abbrev pub thresholdProtocol : List ℤ → ℤ → Protocol Bool
 thresholdProtocol coefficients bound =
     let s : ℕ = spanOf coefficients bound in
@@ -94,5 +102,6 @@ thresholdProtocol coefficients bound =
       truth = λ counts. ltZ (weighed coefficients counts) bound;
     }
 
+-- the question (T)
 abbrev pub threshold : List ℤ → ℤ → Meaning
 threshold coefficients bound = record { kind = 84; protocol = thresholdProtocol coefficients bound }

@@ -6,16 +6,16 @@
 pub enum Advice {
     // The tag at the first place meets, as the first, the one at the second.
     Meet(usize, usize),
-    // Nobody has to: in a load that meetings of started tags left so, every answer is the truth, and no meeting changes one.
+    // Nobody has to meet. In a load that started and then only met, every answer is now the truth, and no meeting changes one.
     Settled,
-    // No advice: there are no words, the unit does not fit, or the tags hold what no started load comes to.
+    // No advice: there are no words, the unit is not allowed, the question has no state, or the tags hold what no started load comes to.
     Lost,
 }
 
 // What a tag of a threshold or a remainder holds.
 #[derive(Clone, Copy, PartialEq, Eq, Debug)]
 pub struct Fields<V> {
-    // Whether it leads: two tags join their values where one of them leads.
+    // Whether it leads: two tags join their values where either leads.
     pub lead: bool,
     // Its answer.
     pub bit: bool,

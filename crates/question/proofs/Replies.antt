@@ -8,7 +8,7 @@ use native.Mathlib.Nat.{mod-lt, div-div-eq-div-mul, mul-comm, mul-assoc, mul-le-
 use native.Mathlib.Omega.{arith}
 use lib.Arith.{digits-div, digits-mod, mod-mul}
 use lib.Dec.{ltb, leb, eqb}
-use lib.ListN.{length}
+use lib.ListN.{length, length-map}
 use Rattle.std.proofs.shelf.Tests.{cond-true, cond-false, and-from, lt-ltb, le-leb, ltb-true, cases-bool, eqb-false, and-left, and-right, cond-both}
 use mir.Val.{boolByte}
 use Rattle.std.specs.Options.{valueOr}
@@ -18,7 +18,10 @@ use Rattle.protocol.specs.declared.Advice.{Advice}
 use Rattle.protocol.specs.declared.Advice.the-variants.{Meet, Settled, Lost}
 use Rattle.protocol.specs.Protocols.{Protocol, Tables, startReply, answerReply, meetReply, adviceReply, stateRead, allowedUnit}
 use Rattle.protocol.specs.Joining.{oneIf, answered, pair, bounded, joined, leftOf, rightOf, unlessSettled}
-use Rattle.protocol.specs.Laws.{Lawful}
+use Rattle.protocol.specs.Laws.{Lawful, Readings, Reached, Settles, done, step, Stable-words, Lawful-on-words}
+use Rattle.protocol.specs.Places.{Advised}
+use Rattle.protocol.proofs.Places.{reached-length}
+use Rattle.reading.specs.declared.Symbol.{Symbol}
 use Rattle.protocol.proofs.Joining.{bounded-is, factors}
 use Rattle.question.specs.Halves.{halvesReply, numberReply}
 use Rattle.question.proofs.Halves.{halves-facts, number-is, some-parts}
@@ -225,3 +228,22 @@ start-joined l r ll lr symbol =
 pub byte-is : (b : Bool) → boolByte b ≡ oneIf b
 byte-is true = refl
 byte-is false = refl
+
+-- the advice of a load that settles
+advised : {next : List ℕ → Advice} {meet : ℕ → ℕ → ℕ × ℕ} {n : ℕ} {states : List ℕ} {k : ℕ} → Settles next meet n states k → Advised n (next states)
+advised {next} {meet} {n} {states} (done e) = subst (Advised n) (sym e) tt
+advised {next} {meet} {n} {states} (step i j e apart rest) = subst (Advised n) (sym e) apart
+
+-- the laws over words follow from those over states
+pub words-lawful : {A : Type 0} (p : Protocol A) → Lawful p → Lawful-on-words p
+words-lawful p law symbols words unit ok readings reached =
+    let size = p .tables .size in
+    let states : List ℕ = map (stateRead unit size) words in
+    let it = law .stable symbols states (allowed-facts unit size ok .1) readings reached in
+    let long : length words ≡ length symbols = sym (length-map words (stateRead unit size)) ∙ reached-length reached in
+    let some = readings .some in
+    let read : adviceReply p words unit ≡ p .next states = cond-true _ _ _ (and-from _ _ (lt-ltb 0 (length words) (omega arith)) ok) in
+    record {
+      read = read;
+      advised = subst (Advised (length symbols)) (sym read) (advised (it .settles));
+      stable = it }

@@ -1,6 +1,6 @@
 // States in words: a unit and a size say which digit of a word is the state.
 ghost use mathlib.Core.Path.{_≡_};
-ghost use mathlib.Core.Bool.{Bool, true, cond};
+ghost use mathlib.Core.Bool.{Bool};
 ghost use Prim.Native.Nat.{ℕ, _*_, _^_, _<_, _≤_};
 ghost use Rattle.protocol.specs.Protocols.{allowedUnit, stateRead};
 ghost use Rattle.question.specs.Tested.{lowestRead};

@@ -3,7 +3,7 @@ ghost use mathlib.Core.Path.{_≡_};
 ghost use mathlib.Core.Bool.{Bool};
 ghost use Prim.Native.Nat.{ℕ};
 ghost use Rattle.protocol.specs.Protocols.{Meaning, startReply, answerReply, meetReply, adviceReply};
-ghost use Rattle.protocol.specs.Laws.{Lawful};
+ghost use Rattle.protocol.specs.Laws.{Lawful, Lawful-on-words};
 use protocol::Advice;
 use reading::Symbol;
 
@@ -43,7 +43,13 @@ pub trait Question {
         ensures { λ r. ⌜ r ≡ meaning (now (self .entry)) .protocol .weight ⌝ };
 
     // Who should meet next, where the unit reads each tag's state in its word. A load asks with unit 1.
-    // Lost where there is no word or no state, and where states times unit pass 2^32.
+    // Lost without words, with size 0 or unit 0, and where unit × size is above 2^32; a kind may be Lost on states that no load comes to.
     fn advice(&self, words: &[u32], unit: u64) -> Advice
         ensures { λ r. ⌜ r ≡ adviceReply (meaning (now (self .entry)) .protocol) (now (words .entry)) unit ⌝ };
 }
+
+// The laws over words, as a theorem: wherever an allowed unit reads states that a load can come to, the advice names two different places of
+// the load or is Settled, following it settles the load, a settled load answers the truth, and no meeting unsettles it.
+pub fn laws_hold_of_words<Q: Question>(question: &Q)
+    ensures { λ _. ⌜ Lawful-on-words (Q·Question .meaning (now (question .entry)) .protocol) ⌝ }
+{}

@@ -7,13 +7,13 @@ ghost use Rattle.question.specs.Halves.{halvesReply, numberReply};
 ghost use Rattle.std.specs.declared.option.Option.the-variants.{Some};
 
 // How many states words of 32 bits can number.
-pub const MOST_STATES: u64 = 1 << 32;
+pub const MAX_STATES: u64 = 1 << 32;
 
 // Whether the unit can read so many states in words of 32 bits. The product is not computed: it could pass 64 bits.
 pub fn allowed(unit: u64, size: u64) -> bool
     ensures { λ r. ⌜ r ≡ allowedUnit unit size ⌝ }
 {
-    unit > 0 && size > 0 && unit <= MOST_STATES / size
+    unit > 0 && size > 0 && unit <= MAX_STATES / size
 }
 
 // How many states two questions have together, or 0 where words of 32 bits cannot number them.

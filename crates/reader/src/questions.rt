@@ -6,6 +6,7 @@ use kinds::Presence;
 use kinds::Threshold;
 use kinds::ThresholdQuestion;
 use question::Question;
+use reading::SYMBOLS;
 use reading::Symbol;
 use reading::SymbolDisplay;
 use refusal::FaultDisplay;
@@ -14,7 +15,7 @@ use std::error::AnyError;
 use std::fmt::Write;
 
 // Two questions and one that is refused, each by its name.
-pub fn show_some(rt: &LibcRuntime) -> Result<(), AnyError> {
+pub(crate) fn show_some(rt: &LibcRuntime) -> Result<(), AnyError> {
     let few = Threshold::new([3, 0, 0, 0, 0, 0, 0, 0], 7)?;
     show(rt, "3a < 7", &few, Symbol(0), Symbol(0))?;
     let lanes = [
@@ -42,8 +43,8 @@ fn show<Q: Question>(
     let weight = question.weight();
     println!(rt, "{name}: kind {kind}, size {size}, weight {weight}")?;
     let mut starts = format!(rt.alloc(), "  starts:")?;
-    for number in 0..8 {
-        let symbol = Symbol(number);
+    for number in 0..SYMBOLS {
+        let symbol = Symbol(number as u8);
         let state = question.start(symbol);
         write!(starts, " {symbol} {state}")?;
     }

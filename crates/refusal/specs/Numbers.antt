@@ -28,5 +28,6 @@ numberOf UnknownState = 14
 abbrev pub layerAt : ℕ → Layer
 layerAt n = cond (leb n 2) Words (cond (leb n 3) Grammar (cond (leb n 7) Limits Load))
 
+-- the layer of a refusal
 abbrev pub layerOf : Refusal → Layer
 layerOf r = layerAt (numberOf r)

@@ -35,7 +35,7 @@ pub enum Refusal {
     UnknownState = 14,
 }
 
-// A refusal and the place that it is about: a byte of a text or its end, a tag of a load, or 0.
+// A refusal and the place that it is about: a byte of a text or its end, a tag of a load, a lane of a question, or 0.
 #[derive(Clone, Copy, PartialEq, Eq, Debug)]
 pub struct Fault {
     pub refusal: Refusal,

@@ -34,6 +34,7 @@ abbrev pub endOf : List ℕ → List ((ℕ × ℕ) × List ℕ) → List ℕ
 endOf states [] = states
 endOf states (m ∷ ms) = endOf (m .1) ms
 
+-- what a row says
 abbrev pub Holds : Fact → Type 0
 Holds (size-is m n) = m .protocol .tables .size ≡ n
 Holds (starts m symbol state) = startReply (m .protocol .tables) symbol ≡ state

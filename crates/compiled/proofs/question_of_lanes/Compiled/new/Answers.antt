@@ -8,13 +8,13 @@ use Rattle.compiled.proofs.question_of_lanes.Compiled.new.Needs as need
 pub ghost-result : need.ghost-result
 ghost-result c =
     let it = made-of (c .args .lanes .now) (c .args .table) (c .in-Continue-check-lanes .field-0) (sym (c .check-lanes .ensures) ∙ c .in-Continue-check-lanes .was tt) in (
-      c .kept .ensures .six,
+      c .padded .ensures .six,
       (
         it .0,
         (
           it .1,
           (
-            subst (λ ls. 0 < lanesOf ls .tables .size) (sym (c .kept .ensures .front)) (it .2),
+            subst (λ ls. 0 < lanesOf ls .tables .size) (sym (c .padded .ensures .front)) (it .2),
             (it .3, tt),
           ),
         ),

@@ -11,5 +11,5 @@ returns c =
     let value = c .number-of .ensures ∙ ap (λ ls. numberReply ls (c .args .numbers .now)) (c .lanes .ensures) in
     record {
       value = value;
-      undone = λ state e. number-undone (take (q .count) (q .kept)) (c .args .numbers .now) state (sym value ∙ e);
+      undone = λ state k e. number-undone (take (q .count) (q .kept)) (c .args .numbers .now) state k (sym value ∙ e);
     }

@@ -28,6 +28,6 @@ returns-then-from-size c =
     let state = c .args .state in
     let few : q .span ≤ 1000 = span-small (q .coefficients) (q .bound) (q .span) (q .fits) (q .wide) in
     let known : state < 4 * (2 * s + 1) = omega arith in
-    let it = fields-contract s state _ known
+    let it = fields-contract s state (c .leads .result) (c .bit-of .result) _ known (c .leads .ensures) (c .bit-of .ensures)
     (value-cast (q .span) state few (omega (arith, q .wide)) ∙ ap (λ x. pos (state / 4) -ℤ pos x) (q .wide)) in
     record { value = it .0; undone = it .1 }

@@ -5,7 +5,7 @@ use Prim.Native.Nat.{_+_, _<_}
 use native.Mathlib.Omega.{arith}
 use lib.ListN.{length, take, getD, length-set}
 use Rattle.std.proofs.shelf.Lists.{take-more-set, take-more, take-all}
-use Rattle.compiled.proofs.question_of_lanes.kept.Needs as need
+use Rattle.compiled.proofs.question_of_lanes.padded.Needs as need
 
 pub loop-place-again : need.loop-place-again
 loop-place-again c =
