@@ -96,7 +96,7 @@ impl Refusal {
             Refusal::RepeatedLetter =>
                 "this letter stands a second time in the same sum or list of letters",
             Refusal::NumberRange =>
-                "a number is out of range: coefficient to 99, bound to 999, modulus 2 to 999, residue below it",
+                "a number is out of range: coefficient to 99, bound to 999, modulus 2 to 999, residue below it, table to 2^lanes bits",
             Refusal::TooManyAtoms => "a question joins at most 6 atoms, and this is the seventh",
             Refusal::TooManyStates => "with this atom the question has more than 4294967296 states",
             Refusal::QuestionTooLarge =>
