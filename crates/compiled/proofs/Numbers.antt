@@ -103,30 +103,30 @@ lane-given : (ls : List Lane) (k state n : ℕ) → laneStateReply ls k state �
 lane-given ls k state n e =
     ⊎-elim
     (λ known.
-      let two = and-parts (ltb k (length ls)) (ltb state (sizeOf ls)) known in
-      let value : _≡_ {A = Option ℕ} (Some (getD (splitNumber ls state) k 0)) (Some n) = sym (cond-true _ _ None known) ∙ e in
-      (ltb-true state (sizeOf ls) (two .1), cc))
+    let two = and-parts (ltb k (length ls)) (ltb state (sizeOf ls)) known in
+    let value : _≡_ {A = Option ℕ} (Some (getD (splitNumber ls state) k 0)) (Some n) = sym (cond-true _ _ None known) ∙ e in
+    (ltb-true state (sizeOf ls) (two .1), cc))
     (λ unknown.
-      let value : _≡_ {A = Option ℕ} None (Some n) = sym (cond-false _ _ None unknown) ∙ e in
-      let z : _≡_ {A = ℕ} 0 1 = cc in absurd (omega arith))
+    let value : _≡_ {A = Option ℕ} None (Some n) = sym (cond-false _ _ None unknown) ∙ e in
+    let z : _≡_ {A = ℕ} 0 1 = cc in absurd (omega arith))
     (cases-bool (ltb k (length ls) && ltb state (sizeOf ls)))
 
 -- the numbers that the lanes of a state have make it again
 pub lanes-undone : (ls : List Lane) (state : ℕ) (ns : List ℕ) → 0 < length ls → length ns ≡ length ls
-  → ((k : ℕ) → k < length ns → laneStateReply ls k state ≡ Some (getD ns k 0)) → numberReply ls ns ≡ Some state
+    → ((k : ℕ) → k < length ns → laneStateReply ls k state ≡ Some (getD ns k 0)) → numberReply ls ns ≡ Some state
 lanes-undone ls state ns some long each =
     let first = lane-given ls 0 state (getD ns 0 0) (each 0 (omega arith)) in
     let same : ns ≡ splitNumber ls state =
-      same-places ns (splitNumber ls state) (long ∙ sym (split-length ls state))
-      (λ k h. sym (lane-given ls k state (getD ns k 0) (each k h) .1)) in
+    same-places ns (splitNumber ls state) (long ∙ sym (split-length ls state))
+    (λ k h. sym (lane-given ls k state (getD ns k 0) (each k h) .1)) in
     ap (numberReply ls) same ∙ split-undone ls state (first .0)
   where
-  same-places : (xs ys : List ℕ) → length xs ≡ length ys → ((k : ℕ) → k < length xs → getD xs k 0 ≡ getD ys k 0) → xs ≡ ys
-  same-places [] [] e f = refl
-  same-places [] (y ∷ ys) e f = absurd (omega arith)
-  same-places (x ∷ xs) [] e f = absurd (omega arith)
-  same-places (x ∷ xs) (y ∷ ys) e f =
-      ap (λ z. z ∷ xs) (f 0 (omega arith)) ∙ ap (λ zs. y ∷ zs) (same-places xs ys (omega arith) (λ k h. f (suc k) (omega arith)))
+    same-places : (xs ys : List ℕ) → length xs ≡ length ys → ((k : ℕ) → k < length xs → getD xs k 0 ≡ getD ys k 0) → xs ≡ ys
+    same-places [] [] e f = refl
+    same-places [] (y ∷ ys) e f = absurd (omega arith)
+    same-places (x ∷ xs) [] e f = absurd (omega arith)
+    same-places (x ∷ xs) (y ∷ ys) e f =
+        ap (λ z. z ∷ xs) (f 0 (omega arith)) ∙ ap (λ zs. y ∷ zs) (same-places xs ys (omega arith) (λ k h. f (suc k) (omega arith)))
 
 -- the steps of the code
 module _ (l : Lane) (rest : List Lane) (lefts rights : ℕ) (sized : lefts ≡ laneSize l) (others : rights ≡ sizeOf rest) where

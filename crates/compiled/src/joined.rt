@@ -5,7 +5,8 @@ ghost use Prim.Native.Nat.{ℕ, _<_, _≤_, _^_};
 ghost use lib.ListN.{length};
 ghost use Rattle.protocol.specs.Protocols.{startReply, meetReply, adviceReply};
 ghost use Rattle.protocol.specs.Joining.{answersNumber};
-ghost use Rattle.compiled.specs.Lanes.{lanesOf, laneStateReply, numberReply};
+ghost use Rattle.question.specs.Halves.{halvesReply, numberReply as pairNumber};
+ghost use Rattle.compiled.specs.Lanes.{laneMeaning, lanesOf, laneStateReply, numberReply};
 use super::lane::Lane;
 use super::lane::LaneQuestion;
 use protocol::Advice;
@@ -21,6 +22,20 @@ pub(crate) fn size_of(lanes: &[Lane]) -> u64
         [] => 1,
         [lane, rest @ ..] => states::product(lane.size(), size_of(rest)),
     }
+}
+
+// The number of the first lane and that of the rest, in one.
+fn join(lane: &Lane, rest: &[Lane], first: u32, others: u32) -> Option<u32>
+    ensures { λ r. ⌜ r ≡ pairNumber (laneMeaning (now (lane .entry)) .protocol .tables .size) (lanesOf (now (rest .entry)) .tables .size) first others ⌝ }
+{
+    states::number(lane.size(), size_of(rest), first, others)
+}
+
+// The number of the first lane and that of the rest, in a state; none for an unknown one.
+fn split(lane: &Lane, rest: &[Lane], state: u32) -> Option<(u32, u32)>
+    ensures { λ r. ⌜ r ≡ halvesReply (laneMeaning (now (lane .entry)) .protocol .tables .size) (lanesOf (now (rest .entry)) .tables .size) state ⌝ }
+{
+    states::halves(lane.size(), size_of(rest), state)
 }
 
 // The advised meetings that lanes need, for each tag but one: the sum, or 0 where the size is.
@@ -48,7 +63,7 @@ pub(crate) fn start_of(lanes: &[Lane], symbol: Symbol) -> u32
         [lane, rest @ ..] => {
             let first = lane.start(symbol);
             let others = start_of(rest, symbol);
-            states::number(lane.size(), size_of(rest), first, others).unwrap_or(0)
+            join(lane, rest, first, others).unwrap_or(0)
         }
     }
 }
@@ -61,7 +76,7 @@ pub(crate) fn answers_of(lanes: &[Lane], state: u32) -> u32
 {
     match lanes {
         [] => 0,
-        [lane, rest @ ..] => match states::halves(lane.size(), size_of(rest), state) {
+        [lane, rest @ ..] => match split(lane, rest, state) {
             Some((first, others)) => u32::from(lane.answer(first)) + 2 * answers_of(rest, others),
             None => 0,
         },
@@ -75,19 +90,17 @@ pub(crate) fn meet_of(lanes: &[Lane], first: u32, second: u32) -> (u32, u32)
     match lanes {
         [] => (first, second),
         [lane, rest @ ..] => {
-            let lefts = lane.size();
-            let rights = size_of(rest);
-            let Some(a) = states::halves(lefts, rights, first) else {
+            let Some(a) = split(lane, rest, first) else {
                 return (first, second);
             };
-            let Some(b) = states::halves(lefts, rights, second) else {
+            let Some(b) = split(lane, rest, second) else {
                 return (first, second);
             };
             let left = lane.meet(a.0, b.0);
             let right = meet_of(rest, a.1, b.1);
             (
-                states::number(lefts, rights, left.0, right.0).unwrap_or(first),
-                states::number(lefts, rights, left.1, right.1).unwrap_or(second),
+                join(lane, rest, left.0, right.0).unwrap_or(first),
+                join(lane, rest, left.1, right.1).unwrap_or(second),
             )
         }
     }
@@ -115,7 +128,7 @@ pub(crate) fn lane_state_of(lanes: &[Lane], place: usize, state: u32) -> Option<
 {
     match lanes {
         [] => None,
-        [lane, rest @ ..] => match states::halves(lane.size(), size_of(rest), state) {
+        [lane, rest @ ..] => match split(lane, rest, state) {
             Some((first, others)) => {
                 if place == 0 {
                     Some(first)
@@ -137,7 +150,7 @@ pub(crate) fn number_of(lanes: &[Lane], numbers: &[u32]) -> Option<u32>
         [lane, rest @ ..] => match numbers {
             [] => None,
             [first, others @ ..] => match number_of(rest, others) {
-                Some(low) => states::number(lane.size(), size_of(rest), *first, low),
+                Some(low) => join(lane, rest, *first, low),
                 None => None,
             },
         },

@@ -24,17 +24,18 @@ pub fields-contract : (s state : ℕ) (lead bit : Bool) (v : ℤ) → state < 4 
     × ((f : Fields ℤ) → _≡_ {A = Option (Fields ℤ)} (Some (record { lead = lead; bit = bit; value = v })) (Some f) → thresholdNumber s f ≡ Some state)
 fields-contract s state lead bit v known l b e =
     let same : _≡_ {A = Fields ℤ} (record { lead = lead; bit = bit; value = v }) (fieldsOf s state) =
-      ap (λ x. record { lead = x; bit = bit; value = v }) l
-      ∙ ap (λ x. record { lead = leadPart state; bit = x; value = v }) b
-      ∙ ap (λ z. record { lead = leadPart state; bit = bitPart state; value = z }) e in
+    ap (λ x. record { lead = x; bit = bit; value = v }) l
+    ∙ ap (λ x. record { lead = leadPart state; bit = x; value = v }) b
+    ∙ ap (λ z. record { lead = leadPart state; bit = bitPart state; value = z }) e in
     let within : natAbs (fieldsOf s state .value) ≤ s = omega (arith, ints) in
     let number : thresholdNumber s (fieldsOf s state) ≡ Some state =
-      cond-true (leb (natAbs (fieldsOf s state .value)) s) (Some (numberOf s (fieldsOf s state))) None (le-leb (natAbs (fieldsOf s state .value)) s within)
-      ∙ ap (λ x. Some x) (number-fields s state known) in
-    (ap (λ f. Some f) same ∙ sym (cond-true (ltb state (4 * (2 * s + 1))) (Some (fieldsOf s state)) None (lt-ltb state (4 * (2 * s + 1)) known)),
-     (λ f made.
-       let is : _≡_ {A = Fields ℤ} (record { lead = lead; bit = bit; value = v }) f = cc in
-       ap (thresholdNumber s) (sym is ∙ same) ∙ number))
+    cond-true (leb (natAbs (fieldsOf s state .value)) s) (Some (numberOf s (fieldsOf s state))) None (le-leb (natAbs (fieldsOf s state .value)) s within)
+    ∙ ap (λ x. Some x) (number-fields s state known) in (
+      ap (λ f. Some f) same ∙ sym (cond-true (ltb state (4 * (2 * s + 1))) (Some (fieldsOf s state)) None (lt-ltb state (4 * (2 * s + 1)) known)),
+      (λ f made.
+          let is : _≡_ {A = Fields ℤ} (record { lead = lead; bit = bit; value = v }) f = cc in
+          ap (thresholdNumber s) (sym is ∙ same) ∙ number),
+    )
 
 -- a state with fields is known, and they are its fields
 pub fields-some : (s state : ℕ) (f : Fields ℤ) → thresholdFields s state ≡ Some f → (ltb state (4 * (2 * s + 1)) ≡ true) × (f ≡ fieldsOf s state)

@@ -41,7 +41,9 @@ pub impl Question for Presence as PresenceQuestion {
     }
 
     fn start(&self, symbol: Symbol) -> u32 {
-        u32::from(usize::from(symbol.0) < SYMBOLS && bit_at(u64::from(self.mask), u32::from(symbol.0)))
+        u32::from(
+            usize::from(symbol.0) < SYMBOLS && bit_at(u64::from(self.mask), u32::from(symbol.0)),
+        )
     }
 
     fn answer(&self, state: u32) -> bool {

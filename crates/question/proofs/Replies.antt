@@ -246,4 +246,5 @@ words-lawful p law symbols words unit ok readings reached =
     record {
       read = read;
       advised = subst (Advised (length symbols)) (sym read) (advised (it .settles));
-      stable = it }
+      stable = it;
+    }

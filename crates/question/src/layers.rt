@@ -1,8 +1,8 @@
 // Layers: questions made of questions, written once for any.
 ghost use mathlib.Core.Path.{_≡_};
 ghost use mathlib.Core.Bool.{Bool};
-ghost use Prim.Native.Nat.{ℕ};
-ghost use Rattle.protocol.specs.Joining.{negated, both};
+ghost use Prim.Native.Nat.{ℕ, _+_, _*_};
+ghost use Rattle.protocol.specs.Joining.{negated, both, oneIf};
 ghost use Rattle.question.specs.Halves.{halvesReply, numberReply};
 ghost use Rattle.std.specs.declared.option.Option.the-variants.{Some};
 use super::Question;
@@ -54,6 +54,13 @@ pub impl<Q: Question> Question for Not<Q> as NotQuestion {
     }
 }
 
+// Which bit of the rule is the answer to these two.
+fn index_of(left: bool, right: bool) -> u32
+    ensures { λ r. ⌜ r ≡ 2 * oneIf left + oneIf right ⌝ }
+{
+    2 * u32::from(left) + u32::from(right)
+}
+
 impl<L: Question, R: Question> Both<L, R> {
     // The left and the right number in a number; none for an unknown one.
     pub fn halves(&self, state: u32) -> Option<(u32, u32)>
@@ -92,7 +99,7 @@ pub impl<L: Question, R: Question> Question for Both<L, R> as BothQuestion {
         let Some((left, right)) = self.halves(state) else {
             return false;
         };
-        let answers = 2 * u32::from(self.left.answer(left)) + u32::from(self.right.answer(right));
+        let answers = index_of(self.left.answer(left), self.right.answer(right));
         states::bit_at(u64::from(self.rule), answers)
     }
 

@@ -28,12 +28,12 @@ returns-in-Some t c =
     let bit = c .from .ensures ∙ byte-is (c .answer .result) in
     record {
       value = λ h.
-          numbers lane (tail ls) (c .size .result) (c .size-of .result) (c .size .ensures) (c .size-of .ensures) (c .args .state) (c .in-Some .first) (c .in-Some .others)
-          (c .from .result) (c .answers-of .result) (sym (c .halves .ensures .value) ∙ c .in-Some .is) (bit ∙ ap oneIf (c .answer .ensures)) (c .answers-of .ensures .value)
+          numbers lane (tail ls) _ _ refl refl (c .args .state) (c .in-Some .first) (c .in-Some .others)
+          (c .from .result) (c .answers-of .result) (sym (c .split .ensures) ∙ c .in-Some .is) (bit ∙ ap oneIf (c .answer .ensures)) (c .answers-of .ensures .value)
           ∙ ap (λ ls. answersNumber (lanesOf ls .tables .answer (c .args .state))) (sym shape);
       below =
           subst (λ n. c .from .result + 2 * c .answers-of .result < 2 ^ n) (sym (ap length shape))
-          (number-below lane (tail ls) (c .size .result) (c .size-of .result) (c .size .ensures) (c .size-of .ensures)
+          (number-below lane (tail ls) _ _ refl refl
           (c .from .result) (c .answers-of .result) (length (tail ls)) (c .answer .result) bit (c .answers-of .ensures .below));
     }
 
@@ -44,7 +44,7 @@ returns-in-None t c =
     let shape = first-and-rest ls lane (search needs) (c .lane-item .is) in
     record {
       value = λ h.
-          absurd (unknown lane (tail ls) (c .size .result) (c .size-of .result) (c .size .ensures) (c .size-of .ensures) (c .args .state)
-          (sym (c .halves .ensures .value) ∙ c .in-None .is) (subst (λ ls. c .args .state < lanesOf ls .tables .size) shape h));
+          absurd (unknown lane (tail ls) _ _ refl refl (c .args .state)
+          (sym (c .split .ensures) ∙ c .in-None .is) (subst (λ ls. c .args .state < lanesOf ls .tables .size) shape h));
       below = pow-pos (length ls);
     }

@@ -26,8 +26,8 @@ returns-in-Some t c =
     let ls = c .args .lanes .now in
     let ns = c .args .numbers .now in
     let lane = c .lane-item .result in
-    c .number .ensures .value
-    ∙ number-all lane (tail ls) (c .size .result) (c .size-of .result) (c .size .ensures) (c .size-of .ensures) (getD ns 0 0) (tail ns) (c .in-Some .low)
+    c .join .ensures
+    ∙ number-all lane (tail ls) _ _ refl refl (getD ns 0 0) (tail ns) (c .in-Some .low)
     (sym (c .in-Some .ensures tt))
     ∙ ap (numberReply (lane ∷ tail ls)) (sym (number-and-rest ns (search needs)))
     ∙ ap (λ ls. numberReply ls ns) (sym (first-and-rest ls lane (search needs) (c .lane-item .is)))

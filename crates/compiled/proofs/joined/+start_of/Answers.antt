@@ -1,5 +1,5 @@
 -- A symbol starts the first lane and the rest. Assumes nothing.
-use mathlib.Core.Path.{sym, ap, _∙_}
+use mathlib.Core.Path.{refl, sym, ap, _∙_}
 use borrow.Author.Needs.{needs}
 use Rattle.std.specs.Options.{valueOr}
 use Rattle.protocol.specs.Protocols.{startReply}
@@ -18,7 +18,7 @@ returns-in-len1-up t c =
     let lane = c .lane-item .result in
     let symbol = c .args .symbol .0 in
     c .unwrap-or .ensures
-    ∙ ap (λ o. valueOr o 0) (c .number .ensures .value)
-    ∙ starts lane (tail ls) (c .size .result) (c .size-of .result) (c .size .ensures) (c .size-of .ensures) symbol (c .start-first .result) (c .start-of-others .result)
+    ∙ ap (λ o. valueOr o 0) (c .join .ensures)
+    ∙ starts lane (tail ls) _ _ refl refl symbol (c .start-first .result) (c .start-of-others .result)
     (c .start-first .ensures) (c .start-of-others .ensures)
     ∙ ap (λ ls. startReply (lanesOf ls .tables) symbol) (sym (first-and-rest ls lane (search needs) (c .lane-item .is)))

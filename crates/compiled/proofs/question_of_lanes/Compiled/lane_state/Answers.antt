@@ -12,4 +12,5 @@ returns c =
     record {
       value = c .lane-state-of .ensures ∙ ap (λ ls. laneStateReply ls (c .args .place) (c .args .state)) (c .lanes .ensures);
       undone = λ ns. lanes-undone (take (q .count) (q .kept)) (c .args .state) ns
-        (omega (arith, length-take (q .count) (q .kept), q .some, q .few, q .six)) }
+          (omega (arith, length-take (q .count) (q .kept), q .some, q .few, q .six));
+    }
