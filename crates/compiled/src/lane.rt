@@ -7,18 +7,12 @@ use kinds::Remainder;
 use kinds::RemainderQuestion;
 use kinds::Threshold;
 use kinds::ThresholdQuestion;
-use kinds::presence::PresenceDebug;
-use kinds::presence::PresencePartialEq;
-use kinds::remainder::RemainderDebug;
-use kinds::remainder::RemainderPartialEq;
-use kinds::threshold::ThresholdDebug;
-use kinds::threshold::ThresholdPartialEq;
 use protocol::Advice;
 use question::Question;
 use reading::Symbol;
 
 // A new kind is one case more here and in `asked`.
-#[derive(Clone, Copy, PartialEq, Eq, Debug)]
+#[derive(Clone, Copy)]
 pub enum Lane {
     Threshold(Threshold),
     Remainder(Remainder),

@@ -32,7 +32,7 @@ use refusal::Refusal;
 const MAX_MODULUS: u32 = 999;
 
 // The coefficients are kept as they were given; a tag starts with what they leave modulo the modulus.
-#[derive(Clone, Copy, PartialEq, Eq, Debug)]
+#[derive(Clone, Copy)]
 pub struct Remainder {
     coefficients: [i32; SYMBOLS],
     modulus: u32,
@@ -77,7 +77,7 @@ impl Remainder {
     {
         let fit = coefficients_fit(&coefficients)
             && modulus >= 2
-            && modulus <= 999
+            && modulus <= MAX_MODULUS
             && residue < modulus;
         Refusal::NumberRange.unless(fit, 0)?;
         Ok(Remainder {
@@ -85,24 +85,6 @@ impl Remainder {
             modulus,
             residue,
         })
-    }
-
-    pub fn coefficients(&self) -> [i32; SYMBOLS]
-        ensures { λ r. ⌜ r ≡ now (self .entry) .coefficients ⌝ }
-    {
-        self.coefficients
-    }
-
-    pub fn modulus(&self) -> u32
-        ensures { λ r. ⌜ r ≡ now (self .entry) .modulus ⌝ }
-    {
-        self.modulus
-    }
-
-    pub fn residue(&self) -> u32
-        ensures { λ r. ⌜ r ≡ now (self .entry) .residue ⌝ }
-    {
-        self.residue
     }
 
     // The fields in a state number; none for an unknown one.

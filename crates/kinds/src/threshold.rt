@@ -32,7 +32,7 @@ use refusal::Refusal;
 const MAX_BOUND: u32 = 999;
 
 // The tags of a threshold hold values from -span to span: room for each coefficient, and for a sum on either side of the bound.
-#[derive(Clone, Copy, PartialEq, Eq, Debug)]
+#[derive(Clone, Copy)]
 pub struct Threshold {
     coefficients: [i32; SYMBOLS],
     bound: i32,
@@ -123,18 +123,6 @@ impl Threshold {
             bound,
             span,
         })
-    }
-
-    pub fn coefficients(&self) -> [i32; SYMBOLS]
-        ensures { λ r. ⌜ r ≡ now (self .entry) .coefficients ⌝ }
-    {
-        self.coefficients
-    }
-
-    pub fn bound(&self) -> i32
-        ensures { λ r. ⌜ r ≡ now (self .entry) .bound ⌝ }
-    {
-        self.bound
     }
 
     // The fields in a state number; none for an unknown one.

@@ -5,3 +5,6 @@ ghost use Rattle.worked.specs.Facts.{Worked-facts-hold};
 pub fn worked_facts_hold()
     ensures { λ _. ⌜ Worked-facts-hold ⌝ }
 {}
+
+#[cfg(test)]
+mod tests;
