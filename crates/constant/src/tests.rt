@@ -157,28 +157,6 @@ fn equal_answers_under_every_rule() -> Result<(), Fail> {
 
 // Yes and no asks for bit 2, no and yes for bit 1.
 #[test]
-fn each_side_has_its_bit() -> Result<(), Fail> {
-    let rows = [
-        (0, false, false),
-        (1, false, false),
-        (2, false, true),
-        (4, true, false),
-        (6, true, true),
-        (8, false, false),
-        (9, false, false),
-        (11, false, true),
-        (13, true, false),
-        (15, true, true),
-    ];
-    for (rule, of_left, of_right) in rows {
-        check_eq(both(YES, NO, rule).answer(0), of_left)?;
-        check_eq(both(NO, YES, rule).answer(0), of_right)?;
-    }
-    Ok(())
-}
-
-// 16 and 240 count as 0, 23 as 7, 24 as 8, 254 as 14 and 255 as 15.
-#[test]
 fn the_low_four_bits_of_a_rule_count() -> Result<(), Fail> {
     let rows = [
         (16, false, false),
@@ -196,55 +174,10 @@ fn the_low_four_bits_of_a_rule_count() -> Result<(), Fail> {
 }
 
 #[test]
-fn beside_a_presence() -> Result<(), Fail> {
-    let presence = Presence { mask: 1 };
-    has_two_states(&presence)?;
-    has_two_states(&both(YES, presence, 8))?;
-    has_two_states(&both(presence, YES, 8))?;
-    // With a no on the left a presence asks for bit 1, and with a no on the right for bit 2.
-    has_two_states(&both(NO, presence, 2))?;
-    has_two_states(&both(presence, NO, 4))?;
-    // Bit 2 without bit 3: yes where there is no presence, which is then reversed.
-    has_two_states(&Not(both(Not(NO), presence, 4)))
-}
-
-#[test]
 fn both_of_both() -> Result<(), Fail> {
     // A yes on the left; on the right a yes under rule 1, and a no under rule 14.
     has_one_state(&both(both(YES, NO, 4), both(NO, NO, 1), 8), true)?;
     has_one_state(&both(both(YES, NO, 4), both(NO, NO, 14), 8), false)?;
     let presence = Presence { mask: 1 };
     has_two_states(&both(both(YES, NO, 4), both(NO, presence, 2), 8))
-}
-
-// Two presences, each beside a constant: a state is 2 × left + right, and either yes is a yes.
-#[test]
-fn both_of_two_presences() -> Result<(), Fail> {
-    let left = both(Presence { mask: 1 }, YES, 8);
-    let right = both(YES, Presence { mask: 2 }, 8);
-    let q = both(left, right, 14);
-    check_eq(q.size(), 4)?;
-    check_eq(q.weight(), 2)?;
-    for (symbol, state) in [(0, 2), (1, 1), (2, 0), (8, 0)] {
-        check_eq(q.start(Symbol(symbol)), state)?;
-    }
-    for (state, answer) in [(0, false), (1, true), (2, true), (3, true), (4, false)] {
-        check_eq(q.answer(state), answer)?;
-    }
-    for (first, second, left) in [(2, 1, (3, 3)), (2, 0, (2, 2)), (4, 1, (4, 1))] {
-        check_eq(q.meet(first, second), left)?;
-    }
-    let loads = [
-        // The left presence is settled first.
-        ([2, 1], 1, Advice::Meet(0, 1)),
-        ([2, 3], 1, Advice::Meet(1, 0)),
-        ([3, 3], 1, Advice::Settled),
-        // The largest unit of four states reads the two highest bits.
-        ([HIGHEST, HIGHEST / 2], LARGEST / 4, Advice::Meet(0, 1)),
-        ([HIGHEST, HIGHEST / 2], LARGEST / 4 + 1, Advice::Lost),
-    ];
-    for (words, unit, advice) in loads {
-        check_eq(q.advice(&words, unit), advice)?;
-    }
-    Ok(())
 }

@@ -12,9 +12,6 @@ use kinds::ThresholdQuestion;
 use protocol::Advice;
 use protocol::AdviceDebug;
 use protocol::AdvicePartialEq;
-use protocol::Fields;
-use protocol::FieldsDebug;
-use protocol::FieldsPartialEq;
 use question::Question;
 use question::layers::Both;
 use question::layers::BothQuestion;
@@ -43,10 +40,6 @@ fn remainder(a: i32, b: i32, c: i32, modulus: u32, residue: u32) -> Result<Remai
 
 fn both<L, R>(left: L, right: R, rule: u8) -> Both<L, R> {
     Both { left, right, rule }
-}
-
-fn fields<V>(lead: bool, bit: bool, value: V) -> Fields<V> {
-    Fields { lead, bit, value }
 }
 
 fn any(mask: u8) -> Lane {
@@ -246,39 +239,6 @@ fn loads_settle_on_the_truth() -> Result<(), Fail> {
     ];
     for (mask, load, meetings, left, answer) in presences {
         settles(&Presence { mask }, load, meetings, left, answer)?;
-    }
-    Ok(())
-}
-
-#[test]
-fn meetings_join_and_spread() -> Result<(), Fail> {
-    let t = threshold(3, 0, 0, 7)?;
-    let rows = [
-        (47, 47, 59, 33),
-        (45, 47, 59, 33),
-        (66, 53, 66, 52),
-        (3, 3, 3, 1),
-        (59, 36, 62, 32),
-        (45, 52, 45, 52),
-        (3, 64, 35, 33),
-        (66, 66, 66, 64),
-    ];
-    for (first, second, new_first, new_second) in rows {
-        check_eq(t.meet(first, second), (new_first, new_second))?;
-        check_eq(Not(t).meet(first, second), (new_first, new_second))?;
-    }
-    let r = remainder(1, 2, -1, 3, 1)?;
-    for (first, second, new_first, new_second) in [
-        (10, 10, 7, 1),
-        (8, 7, 2, 0),
-        (9, 4, 9, 4),
-        (2, 1, 2, 0),
-        (11, 9, 7, 1),
-    ] {
-        check_eq(r.meet(first, second), (new_first, new_second))?;
-    }
-    for (first, second, larger) in [(0, 0, 0), (0, 1, 1), (1, 0, 1), (1, 1, 1)] {
-        check_eq(A.meet(first, second), (larger, larger))?;
     }
     Ok(())
 }
@@ -667,31 +627,6 @@ fn lanes_and_tables_that_are_refused() -> Result<(), Fail> {
         Compiled::new(&[any(1), t, t, t], 0).err(),
         Some(Refusal::TooManyStates.at(3)),
     )
-}
-
-#[test]
-fn numbers_are_taken_apart_and_joined() -> Result<(), Fail> {
-    let t = threshold(1, 0, 0, 0)?;
-    let r = remainder(1, 0, 0, 3, 2)?;
-    for state in 0..12 {
-        let (lead, bit) = (state / 2 % 2 == 1, state % 2 == 1);
-        let signed = fields(lead, bit, [-1, 0, 1][state as usize / 4]);
-        let unsigned = fields(lead, bit, [0, 1, 2][state as usize / 4]);
-        check_eq(t.fields(state), Some(signed))?;
-        check_eq(t.number(signed), Some(state))?;
-        check_eq(r.fields(state), Some(unsigned))?;
-        check_eq(r.number(unsigned), Some(state))?;
-        check_eq(t.fields(12 + state), None)?;
-        check_eq(r.fields(12 + state), None)?;
-        for value in [-2, 2, i32::MIN, i32::MAX] {
-            check_eq(t.number(fields(lead, bit, value)), None)?;
-        }
-        for value in [3, u32::MAX] {
-            check_eq(r.number(fields(lead, bit, value)), None)?;
-        }
-    }
-    check_eq(t.fields(u32::MAX), None)?;
-    check_eq(r.fields(u32::MAX), None)
 }
 
 #[test]
