@@ -1,8 +1,8 @@
 -- One number a lane, each way: each undoes the other. Assumes nothing.
-use Rattle.std.proofs.Common.{◌≡◌, ℕ, zero, suc, ◌+◌, ◌-◌, ◌*◌, ◌/◌, ◌%◌, ◌<◌, ◌≤◌, Bool, true, false, cond, ◌&&◌, eqb, ltb, List, [], ◌∷◌, length, get_or, Some, None, Option, sym, refl, ap, ◌∙◌, subst, ⊎_elim, div-add-mod', arith}
+use Rattle.std.proofs.Common.{◌≡◌, ℕ, zero, suc, ◌-◌, ◌*◌, ◌<◌, true, false, cond, ◌&&◌, eqb, ltb, List, [], ◌∷◌, length, get_or, Some, None, Option, sym, refl, ap, ◌∙◌, subst, ⊎_elim, div-add-mod', arith}
 use lib.Arith.{digits_lt, digits_div, digits_mod}
-use Rattle.std.proofs.lemmas.Bool.{and_from, and_parts, and_left, and_right, and_cases, cond-true, cond-false, cond_both, lt-ltb, ltb-true, ltb-false, le-ltb, cases_Bool, cases_lt, both_ways}
-use Rattle.protocol.specs.Joining.{bounded, joined, left_of, right_of}
+use Rattle.std.proofs.lemmas.Bool.{and_from, and_parts, and_left, and_right, and_cases, cond-true, cond-false, lt-ltb, ltb-true, le-ltb, cases_Bool, cases_lt, both_ways}
+use Rattle.protocol.specs.Joining.{joined, left_of, right_of}
 use Rattle.protocol.proofs.Joining.{bounded_is, factors}
 use Rattle.question.specs.Halves.{halves_reply}
 use Rattle.question.specs.Halves as halves
@@ -10,7 +10,7 @@ use Rattle.question.proofs.Halves.{halves_facts}
 use Rattle.question.proofs.Replies.{halves_some, halves_none}
 use Rattle.compiled.specs.declared.lane.Lane.{Lane}
 use Rattle.compiled.specs.Lanes.{lane_meaning, lanes_of, split_number, join_numbers, each_known, lane_state_reply, number_reply}
-use Rattle.compiled.specs.LanesLemmas.{split, tail, first_and_rest}
+use Rattle.compiled.proofs.Lanes.{split, tail, first_and_rest}
 
 abbrev size_of : List Lane → ℕ
 size_of ls = (lanes_of ls).tables.size

@@ -2,7 +2,7 @@
 ghost use Rattle.std.specs.Prelude.{◌≡◌, ℕ, ◌^◌, ◌<◌, ◌≤◌, Bool, length};
 ghost use Rattle.protocol.specs.Protocols.{start_reply, meet_reply, advice_reply};
 ghost use Rattle.protocol.specs.Joining.{answers_number};
-ghost use Rattle.question.specs.Halves.{halves_reply, number_reply as pairNumber};
+ghost use Rattle.question.specs.Halves.{halves_reply, number_reply as pair_number};
 ghost use Rattle.compiled.specs.Lanes.{lane_meaning, lanes_of, lane_state_reply, number_reply};
 
 use super::lane::Lane;
@@ -22,7 +22,7 @@ pub(crate) fn size_of(lanes: &[Lane]) -> u64
 
 // The number of the first lane and that of the rest, in one.
 fn join(lane: &Lane, rest: &[Lane], first: u32, others: u32) -> Option<u32>
-    ensures { result ≡ pairNumber (lane_meaning lane.now).protocol.tables.size (lanes_of rest.now).tables.size first others }
+    ensures { result ≡ pair_number (lane_meaning lane.now).protocol.tables.size (lanes_of rest.now).tables.size first others }
 {
     states::number(lane.size(), size_of(rest), first, others)
 }

@@ -1,4 +1,6 @@
 // Compiled questions: one to six plain questions in one number, and a table of the answers.
+#![tactic(auto)]
+
 mod joined;
 pub mod lane;
 pub mod question_of_lanes;

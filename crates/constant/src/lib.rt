@@ -1,8 +1,9 @@
 // A question of one state. It is here to show that the interface is open: whatever keeps its rules is a question, and goes under any layer.
-ghost use Rattle.std.specs.Prelude.{◌≡◌, refl};
+#![tactic(auto)]
+
+ghost use Rattle.std.specs.Prelude.{◌≡◌};
 ghost use Rattle.constant.specs.Constant.{constant};
-ghost use Rattle.std.proofs.Common.{arith};
-ghost use Rattle.protocol.specs.Laws.{done};
+ghost use Rattle.constant.specs.ConstantLemmas.{constant_lawful};
 
 use protocol::Advice;
 use question::{Question, states};
@@ -15,18 +16,7 @@ pub struct Constant(pub bool);
 impl Question for Constant {
     ghost meaning = { λ q. constant q.0 };
 
-    ghost lawful = { λ q.
-        record {
-          size_fits = omega arith;
-          weight_fits = omega arith;
-          start_known = λ symbol h some. some;
-          meet_known = λ first second a b. (a, b);
-          stable = λ symbols states some readings reached. record {
-            settles = done refl;
-            right = λ e place h. refl;
-            stays = λ e first second apart. refl;
-          };
-        } };
+    ghost lawful = { λ q. constant_lawful q.0 };
 
     fn kind(&self) -> char {
         'K'

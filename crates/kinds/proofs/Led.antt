@@ -1,10 +1,8 @@
 -- The advice of a leader, by what the searches find. Assumes nothing.
-use Rattle.std.proofs.Common.{◌≡◌, ℕ, ◌<◌, ◌≤◌, Bool, true, false, ltb, List, [], ◌∷◌, map, length, get_or, Some, None, Option, sym, refl, ap, ◌∙◌, ⊎_elim, arith}
+use Rattle.std.proofs.Common.{◌≡◌, ℕ, ◌<◌, Bool, true, ltb, List, ◌∷◌, map, length, get_or, Some, None, Option, sym, ap, arith}
 use lib.ListN.{length-map}
 use Rattle.std.proofs.lemmas.List.{get_or-map}
-use Rattle.std.proofs.lemmas.Bool.{cases_lt, lt-ltb}
-use Rattle.protocol.specs.declared.Advice.{Advice}
-use Rattle.protocol.specs.declared.Advice.TheVariants.{Meet, Settled, Lost}
+use Rattle.std.proofs.lemmas.Bool.{lt-ltb}
 use Rattle.protocol.specs.Places.{lowest, first_fit, paired, led, state_at}
 use Rattle.protocol.specs.Protocols.{state_read}
 use Rattle.protocol.proofs.Places.{lowest_some}

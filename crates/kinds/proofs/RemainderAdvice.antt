@@ -1,10 +1,10 @@
 -- The advice of a remainder, by what the searches find. Assumes nothing.
-use Rattle.std.proofs.Common.{◌≡◌, ℕ, ◌*◌, ◌/◌, Bool, true, false, eqb, List, [], ◌∷◌, map, length, get_or, ℤ, Some, None, Option, sym, refl, ap, ◌∙◌}
-use Rattle.protocol.specs.declared.Advice.TheVariants.{Meet, Settled}
+use Rattle.std.proofs.Common.{◌≡◌, ℕ, ◌*◌, ◌/◌, Bool, true, eqb, List, [], ◌∷◌, map, length, get_or, ℤ, Some, None, Option, sym, ap, ◌∙◌}
+use Rattle.protocol.specs.declared.Advice.TheVariants.{Meet}
 use Rattle.protocol.specs.declared.Fields.{Fields}
-use Rattle.protocol.specs.Places.{lowest, other, first_fit, paired, led, state_at}
+use Rattle.protocol.specs.Places.{lowest, other, first_fit, paired, state_at}
 use Rattle.protocol.specs.Protocols.{state_read, allowed_unit, advice_reply}
-use Rattle.protocol.specs.Remainder.{fields_of, partner_rules, next_of, remainder_protocol}
+use Rattle.protocol.specs.Remainder.{fields_of, partner_rules, remainder_protocol}
 use Rattle.protocol.specs.Sums.{lead_part, bit_part, differs}
 use Rattle.question.specs.Tested.{lowest_read}
 use Rattle.question.proofs.Replies.{advice_read}

@@ -1,12 +1,12 @@
 -- What the ranges of a threshold's numbers say of its span. Assumes nothing.
 use Rattle.std.proofs.Common.{◌≡◌, ℕ, zero, suc, ◌≤◌, true, List, [], ◌∷◌, get_or, ℤ, pos, nat_abs, arith, w32, to_z, of_z}
 use Rattle.std.proofs.lemmas.Int.{ints}
-use Rattle.std.specs.List.{AllByRecursion as All}
+use Rattle.std.specs.List.{AllByRecursion}
 use Rattle.protocol.specs.Threshold.{largest, span_of}
 use Rattle.kinds.specs.Ranges.{threshold_fits}
 use Rattle.kinds.specs.RangesLemmas.{threshold_within}
 
-largest_small : (ks : List ℤ) → All (λ k. nat_abs k ≤ 99) ks → largest ks ≤ 99
+largest_small : (ks : List ℤ) → AllByRecursion (λ k. nat_abs k ≤ 99) ks → largest ks ≤ 99
 largest_small [] h = omega arith
 largest_small (k ∷ ks) h = omega (arith, h.0, largest_small ks h.1)
 

@@ -1,6 +1,6 @@
 -- What the tests of the ranges say: a question of numbers in range keeps the laws. Assumes nothing.
 use Rattle.std.specs.Prelude.{◌≡◌, ℕ, ◌≤◌, true, ◌&&◌, List, [], ◌∷◌, length, ℤ, nat_le, nat_lt, unsigned_abs}
-use Rattle.std.specs.List.{AllByRecursion as All}
+use Rattle.std.specs.List.{AllByRecursion}
 use Rattle.std.proofs.lemmas.Bool.{and_parts, leb-true, ltb-true}
 use Rattle.protocol.specs.Laws.{Lawful}
 use Rattle.protocol.specs.Remainder.{remainder_protocol}
@@ -9,7 +9,7 @@ use Rattle.protocol.proofs.Remainder.{remainder_lawful}
 use Rattle.protocol.proofs.Threshold.{threshold_lawful}
 use Rattle.kinds.specs.Ranges.{coefficients_fit, remainder_fits, threshold_fits}
 
-coefficients_within : (ks : List ℤ) → coefficients_fit ks ≡ true → All (λ k. unsigned_abs k ≤ 99) ks
+coefficients_within : (ks : List ℤ) → coefficients_fit ks ≡ true → AllByRecursion (λ k. unsigned_abs k ≤ 99) ks
 coefficients_within [] e = tt
 coefficients_within (k ∷ ks) e =
     let parts = and_parts (nat_le (unsigned_abs k) 99) (coefficients_fit ks) e in
@@ -27,7 +27,7 @@ remainder_in_range ks m c eight e =
     let three = and_parts (nat_le m 999) (nat_lt c m) two.1 in
     remainder_lawful ks m c eight (leb-true 2 m two.0) (leb-true m 999 three.0) (ltb-true c m three.1)
 
-pub threshold_within : (ks : List ℤ) (c : ℤ) → threshold_fits ks c ≡ true → All (λ k. unsigned_abs k ≤ 99) ks × (unsigned_abs c ≤ 999)
+pub threshold_within : (ks : List ℤ) (c : ℤ) → threshold_fits ks c ≡ true → AllByRecursion (λ k. unsigned_abs k ≤ 99) ks × (unsigned_abs c ≤ 999)
 threshold_within ks c e =
     let parts = and_parts (coefficients_fit ks) (nat_le (unsigned_abs c) 999) e in
     (coefficients_within ks parts.0, leb-true (unsigned_abs c) 999 parts.1)

@@ -1,4 +1,6 @@
 // The three plain kinds of question, after the tables of Angluin, Aspnes, Diamadi, Fischer and Peralta (2006).
+#![tactic(auto)]
+
 mod numbers;
 pub mod presence;
 pub mod remainder;

@@ -1,4 +1,6 @@
 // Probe bytes: what a probe measured, and the symbol that it is classed as.
+#![tactic(auto)]
+
 ghost use Rattle.std.specs.Prelude.{◌≡◌, ◌<◌, true, map, length, slice_index, slice_set};
 ghost use Rattle.probe.specs.Classes.{class_of, symbol_of, keeps_rule};
 ghost use Rattle.probe.specs.Classing.{checks};

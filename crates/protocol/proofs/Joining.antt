@@ -5,7 +5,7 @@ use lib.Arith.{digits_div, digits_mod, digits_lt}
 use lib.ListN.{get_or-map}
 use lib.Seq.{map-set}
 use Rattle.std.proofs.lemmas.Bool.{cond-true, cond-false, cond_both, cases_Bool, cases_lt, cases_eq, leb-true, ne_eqb, eqb-true, eqb-false, lt-leb, le-leb}
-use Rattle.std.specs.List.{AllByRecursion as All}
+use Rattle.std.specs.List.{AllByRecursion}
 use Rattle.reading.specs.Counting.{counts_of}
 use Rattle.reading.specs.declared.Symbol.{Symbol}
 use Rattle.protocol.specs.declared.Advice.{Advice}
@@ -59,14 +59,14 @@ map-meeting f m w qs i j z first second =
     ∙ ap (λ x. set (set (map f qs) i (w x (f (state_at qs j))).0) j (w x (f (state_at qs j))).1) (sym (at f z qs i))
     ∙ ap (λ x. set (set (map f qs) i (w (state_at (map f qs) i) x).0) j (w (state_at (map f qs) i) x).1) (sym (at f z qs j))
 
-map-starts : (f : ℕ → ℕ) (s t : ℕ → ℕ) (ss : List Symbol) → All (λ x. x.0 < 8) ss
+map-starts : (f : ℕ → ℕ) (s t : ℕ → ℕ) (ss : List Symbol) → AllByRecursion (λ x. x.0 < 8) ss
     → ((k : ℕ) → k < 8 → f (s k) ≡ t k) → map f (map (λ x. s x.0) ss) ≡ map (λ x. t x.0) ss
 map-starts f s t [] all same = refl
 map-starts f s t (x ∷ ss) all same =
     ap (λ y. y ∷ map f (map (λ x. s x.0) ss)) (same x.0 all.0)
     ∙ ap (λ ys. t x.0 ∷ ys) (map-starts f s t ss all.1 same)
 
-map_reached : (f : ℕ → ℕ) (s t : ℕ → ℕ) (m w : ℕ → ℕ → ℕ × ℕ) (ss : List Symbol) → All (λ x. x.0 < 8) ss → f 0 ≡ 0
+map_reached : (f : ℕ → ℕ) (s t : ℕ → ℕ) (m w : ℕ → ℕ → ℕ × ℕ) (ss : List Symbol) → AllByRecursion (λ x. x.0 < 8) ss → f 0 ≡ 0
     → ((k : ℕ) → k < 8 → f (s k) ≡ t k)
     → ((a b : ℕ) → f (m a b).0 ≡ (w (f a) (f b)).0) → ((a b : ℕ) → f (m a b).1 ≡ (w (f a) (f b)).1)
     → {qs : List ℕ} → Reached s m ss qs → Reached t w ss (map f qs)
@@ -241,7 +241,7 @@ none_lawful = record {
   stable = λ ss qs big readings reached. record { settles = done refl; right = λ e place h. refl; stays = λ e i j apart. refl };
 }
 
-pub lanes_lawful : (ps : List (Protocol Bool)) → All Lawful ps → Lawful (lanes ps)
+pub lanes_lawful : (ps : List (Protocol Bool)) → AllByRecursion Lawful ps → Lawful (lanes ps)
 lanes_lawful [] all = none_lawful
 lanes_lawful (p ∷ ps) all =
     answered_lawful (λ halves. halves.0 ∷ halves.1) (pair p (lanes ps)) (pair_lawful p (lanes ps) all.0 (lanes_lawful ps all.1))

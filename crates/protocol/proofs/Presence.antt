@@ -1,6 +1,6 @@
 -- The laws of presence: each advised meeting makes one 0 a 1, and a 1 is there exactly where a symbol of the mask was read. Assumes nothing.
 use Rattle.std.proofs.Common.{◌≡◌, ℕ, zero, suc, ◌+◌, ◌-◌, ◌*◌, ◌<◌, ◌≤◌, max, Bool, true, false, cond, ◌&&◌, eqb, ltb, ◌⊎◌, List, [], ◌∷◌, map, length, get_or, Some, None, Decides, Option, sym, refl, ap, ◌∙◌, inl, inr, ⊎_elim, arith}
-use Rattle.std.specs.List.{AllByRecursion as All}
+use Rattle.std.specs.List.{AllByRecursion}
 use Rattle.std.proofs.lemmas.List.{get_or-map, length-map}
 use Rattle.std.proofs.lemmas.List.Sums.{sum_by-cons}
 use Rattle.std.proofs.lemmas.Bool.{both_ways, cases_eq, eqb-true, eq-eqb, ne_eqb, ltb-true, lt-ltb, and_from, and_parts, or_cases, or_left, or_right}
@@ -67,12 +67,12 @@ up_at from (suc n) (suc k) h = up_at (suc from) n k (omega arith) ∙ omega arit
 count_at : (ss : List Symbol) (k : ℕ) → k < 8 → get_or (counts_of ss) k 0 ≡ occurs k ss
 count_at ss k h = get_or-map (λ k. occurs k ss) (up_from 0 8) k 0 0 h ∙ ap (λ k. occurs k ss) (up_at 0 8 k h ∙ omega arith)
 
-symbol_small : (ss : List Symbol) → All (λ s. s.0 < 8) ss → (k : ℕ) → k < length ss → symbol_at ss k < 8
+symbol_small : (ss : List Symbol) → AllByRecursion (λ s. s.0 < 8) ss → (k : ℕ) → k < length ss → symbol_at ss k < 8
 symbol_small [] each k h = absurd (omega arith)
 symbol_small (s ∷ ss) each zero h = each.0
 symbol_small (s ∷ ss) each (suc k) h = symbol_small ss each.1 k (omega arith)
 
-truth_is : (mask : ℕ) (ss : List Symbol) → All (λ s. s.0 < 8) ss → Decides (present_from mask 0 (counts_of ss)) (Present mask ss)
+truth_is : (mask : ℕ) (ss : List Symbol) → AllByRecursion (λ s. s.0 < 8) ss → Decides (present_from mask 0 (counts_of ss)) (Present mask ss)
 truth_is mask ss each = (to, from)
   where
     to : present_from mask 0 (counts_of ss) ≡ true → Present mask ss
@@ -231,7 +231,7 @@ settles_all qs n long (meets i j e in_i in_j one none) =
 
 -- ---- the laws
 
-module _ (mask : ℕ) (ss : List Symbol) (qs : List ℕ) (each : All (λ s. s.0 < 8) ss) (h : Held mask ss qs) where
+module _ (mask : ℕ) (ss : List Symbol) (qs : List ℕ) (each : AllByRecursion (λ s. s.0 < 8) ss) (h : Held mask ss qs) where
   right_at : View qs (length ss) → next_of qs ≡ Settled → (k : ℕ) → k < length ss → eqb (state_at qs k) 1 ≡ present_from mask 0 (counts_of ss)
   right_at v e k b = same_from_decides (eqb (state_at qs k) 1) (present_from mask 0 (counts_of ss)) (to, from v) (truth_is mask ss each)
     where

@@ -1,6 +1,6 @@
 -- The laws of remainders: leads merge into one, which then corrects the bits, and the values' sum stays congruent to the weighed sum. Assumes nothing.
 use Rattle.std.proofs.Common.{◌≡◌, ℕ, zero, suc, ◌+◌, ◌-◌, ◌*◌, ◌/◌, ◌%◌, ◌<◌, ◌≤◌, Bool, true, false, cond, not, ◌||◌, eqb, ◌⊎◌, List, [], ◌∷◌, map, length, ℤ, pos, negsuc, ◌+ℤ◌, ◌-ℤ◌, nat_abs, Some, None, Option, sym, refl, ap, ◌∙◌, subst, inl, inr, ⊎_elim, arith}
-use Rattle.std.specs.List.{AllByRecursion as All}
+use Rattle.std.specs.List.{AllByRecursion}
 use Rattle.std.proofs.lemmas.Nat.{div-add-mod', mod_below, mod-mul-add}
 use Rattle.std.proofs.lemmas.Int.{ints}
 use Rattle.std.proofs.lemmas.Bool.{both_ways, cases_Bool, cases_eq, cases_lt, eq-eqb, ne_eqb, cond_both, and_parts, or_cases, or_parts}
@@ -188,7 +188,7 @@ reduced_small m (negsuc a) h = omega arith
 abbrev start_of : List ℤ → ℕ → ℕ → ℕ → ℕ
 start_of ks m c symbol = number_of (start_fields ks m c symbol)
 
-first_held : (ks : List ℤ) (m c : ℕ) (ss : List Symbol) (tag : ℕ → Fields ℕ) → length ks ≡ 8 → 0 < m → 0 < length ss → All (λ s. s.0 < 8) ss
+first_held : (ks : List ℤ) (m c : ℕ) (ss : List Symbol) (tag : ℕ → Fields ℕ) → length ks ≡ 8 → 0 < m → 0 < length ss → AllByRecursion (λ s. s.0 < 8) ss
     → ((k : ℕ) → k < length ss → tag k ≡ start_fields ks m c (symbol_at ss k)) → Held m c (length ss) (weighed ks (counts_of ss)) tag
 first_held ks m c ss tag eight some loaded each at =
     let coefficient : ℕ → ℤ = λ k. coefficient_of ks (symbol_at ss k) in
@@ -200,7 +200,7 @@ first_held ks m c ss tag eight some loaded each at =
       sum = rw (weighed_is ks ss eight each) (same_totals m coefficient (λ k. (tag k).value) (length ss) (λ k b. rw (at k b) (same_reduced m (coefficient k) some)));
     }
 
-module _ (ks : List ℤ) (m c : ℕ) (ss : List Symbol) (eight : length ks ≡ 8) (some : 0 < m) (loaded : 0 < length ss) (each : All (λ s. s.0 < 8) ss) where
+module _ (ks : List ℤ) (m c : ℕ) (ss : List Symbol) (eight : length ks ≡ 8) (some : 0 < m) (loaded : 0 < length ss) (each : AllByRecursion (λ s. s.0 < 8) ss) where
   started_held : Held m c (length ss) (weighed ks (counts_of ss)) (tag_of (map (λ s. start_of ks m c s.0) ss))
   started_held = first_held ks m c ss _ eight some loaded each
       (λ k b. ap fields_of (started_at (start_of ks m c) ss k b) ∙ fields_number (start_fields ks m c (symbol_at ss k)))

@@ -1,7 +1,7 @@
 -- The threshold is lawful. Assumes nothing.
 use Rattle.std.proofs.Common.{◌≡◌, ℕ, zero, suc, ◌+◌, ◌-◌, ◌*◌, ◌/◌, ◌%◌, ◌^◌, ◌<◌, ◌≤◌, eqb, ◌⊎◌, List, [], ◌∷◌, map, length, get_or, ℤ, pos, ◌+ℤ◌, nat_abs, sym, refl, ap, ◌∙◌, subst, inl, inr, ⊎_elim, arith}
 use lib.Signed.{lt_z}
-use Rattle.std.specs.List.{AllByRecursion as All}
+use Rattle.std.specs.List.{AllByRecursion}
 use Rattle.std.proofs.lemmas.Bool.{cases_lt, cases_eq}
 use Rattle.std.proofs.lemmas.Bool.Decides.{nat_tests}
 use Rattle.std.proofs.lemmas.Int.{ints}
@@ -87,7 +87,7 @@ largest_most [] k = omega arith
 largest_most (z ∷ ks) zero = omega arith
 largest_most (z ∷ ks) (suc k) = omega (arith, largest_most ks k)
 
-largest_small : (ks : List ℤ) → All (λ k. nat_abs k ≤ 99) ks → largest ks ≤ 99
+largest_small : (ks : List ℤ) → AllByRecursion (λ k. nat_abs k ≤ 99) ks → largest ks ≤ 99
 largest_small [] h = omega arith
 largest_small (z ∷ ks) h = omega (arith, h.0, largest_small ks h.1)
 
@@ -96,7 +96,7 @@ started_at g [] k h = absurd (omega arith)
 started_at g (y ∷ ss) zero h = refl
 started_at g (y ∷ ss) (suc k) h = started_at g ss k (omega arith)
 
-module _ (ks : List ℤ) (c : ℤ) (eight : length ks ≡ 8) (ks_small : All (λ k. nat_abs k ≤ 99) ks) (c_small : nat_abs c ≤ 999) where
+module _ (ks : List ℤ) (c : ℤ) (eight : length ks ≡ 8) (ks_small : AllByRecursion (λ k. nat_abs k ≤ 99) ks) (c_small : nat_abs c ≤ 999) where
   abbrev span : ℕ
   span = span_of ks c
 
@@ -190,7 +190,7 @@ module _ (ks : List ℤ) (c : ℤ) (eight : length ks ≡ 8) (ks_small : All (λ
               stays_settled span edge span_some (next_of span c) (meet_of span c) load_of (view span edge c edge_at) (meets span edge c edge_at) n sum qs len h e i j apart;
         }
 
-pub threshold_lawful : (ks : List ℤ) (c : ℤ) → length ks ≡ 8 → All (λ k. nat_abs k ≤ 99) ks → nat_abs c ≤ 999 → Lawful (threshold_protocol ks c)
+pub threshold_lawful : (ks : List ℤ) (c : ℤ) → length ks ≡ 8 → AllByRecursion (λ k. nat_abs k ≤ 99) ks → nat_abs c ≤ 999 → Lawful (threshold_protocol ks c)
 threshold_lawful ks c eight ks_small c_small =
     let s = span_of ks c in
     let few : s ≤ 1000 = span_small ks c eight ks_small c_small in

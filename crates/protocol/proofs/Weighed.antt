@@ -1,7 +1,7 @@
 -- The weighed sum of the counts is the sum of the symbols' coefficients, place by place. Assumes nothing.
 use Rattle.std.proofs.Common.{◌≡◌, ℕ, zero, suc, ◌+◌, ◌<◌, cond, eqb, List, [], ◌∷◌, map, length, get_or, ℤ, pos, ◌+ℤ◌, ◌*ℤ◌, sym, refl, ap, ◌∙◌, arith}
 use lib.IntN.{+ℤ_comm, +ℤ_assoc}
-use Rattle.std.specs.List.{AllByRecursion as All}
+use Rattle.std.specs.List.{AllByRecursion}
 use Rattle.std.proofs.lemmas.Int.{ints}
 use Rattle.std.proofs.lemmas.List.Sums.{sum_by-cons}
 use Rattle.std.proofs.lemmas.Bool.{eq-eqb, ne_eqb}
@@ -71,7 +71,7 @@ weighed-map [] f g e at = refl
 weighed-map (k ∷ ks) f g e [] = refl
 weighed-map (k ∷ ks) f g e (i ∷ at) = rw (e i, weighed-map ks f g e at)
 
-pub weighed_is : (ks : List ℤ) (ss : List Symbol) → length ks ≡ 8 → All (λ s. s.0 < 8) ss → weighed ks (counts_of ss) ≡ total_z (λ i. coefficient_of ks (get_or (map (λ s. s.0) ss) i 0)) (length ss)
+pub weighed_is : (ks : List ℤ) (ss : List Symbol) → length ks ≡ 8 → AllByRecursion (λ s. s.0 < 8) ss → weighed ks (counts_of ss) ≡ total_z (λ i. coefficient_of ks (get_or (map (λ s. s.0) ss) i 0)) (length ss)
 unfolding total_z
 weighed_is ks [] e each = weighed_none ks (up_from 0 8)
 weighed_is ks (s ∷ ss) e each =

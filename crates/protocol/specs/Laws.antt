@@ -1,6 +1,6 @@
 -- What every question owes: from all that meetings can leave, its advice settles the load, and a settled load answers the truth. Assumes nothing.
 use Rattle.std.specs.Prelude.{◌≡◌, ℕ, suc, ◌-◌, ◌*◌, ◌^◌, ◌<◌, ◌≤◌, true, List, map, length}
-use Rattle.std.specs.List.{AllByRecursion as All}
+use Rattle.std.specs.List.{AllByRecursion}
 use Rattle.reading.specs.Counting.{counts_of}
 use Rattle.reading.specs.declared.Symbol.{Symbol}
 use Rattle.protocol.specs.declared.Advice.{Advice}
@@ -12,7 +12,7 @@ use Rattle.protocol.specs.Places.{Apart, Advised, meeting, state_at}
 pub record Readings (symbols : List Symbol) : Type 0 where
   pub some : 0 < length symbols
   pub few : length symbols ≤ 1024
-  pub each : All (λ s. s.0 < 8) symbols
+  pub each : AllByRecursion (λ s. s.0 < 8) symbols
 
 -- the states that a load with these symbols can come to: those it starts in, and those that any meetings of two different places leave
 pub data Reached (start : ℕ → ℕ) (meet : ℕ → ℕ → ℕ × ℕ) (symbols : List Symbol) : List ℕ → Type 0 where

@@ -1,5 +1,6 @@
 // Population protocols with advice, after Angluin, Aspnes, Diamadi, Fischer and Peralta (2006): what the tags of a load hold, what a meeting
 // of two of them does, and which two should meet next. The crate has the words and the theorems; `question` has the interface.
+#![tactic(auto)]
 
 // Which two tags of a load should meet next.
 #[derive(Clone, Copy, PartialEq, Eq, Debug)]

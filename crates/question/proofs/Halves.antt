@@ -1,7 +1,7 @@
 -- Two numbers in one, each way: each undoes the other. Assumes nothing.
-use Rattle.std.proofs.Common.{◌≡◌, ℕ, ◌+◌, ◌*◌, ◌/◌, ◌%◌, ◌^◌, ◌<◌, ◌≤◌, Bool, true, false, cond, ◌&&◌, ltb, leb, Some, None, Option, sym, refl, ap, ◌∙◌, subst, ⊎_elim, mod-lt, div-lt_iff_lt-mul, div-add-mod', arith}
+use Rattle.std.proofs.Common.{◌≡◌, ℕ, ◌*◌, ◌/◌, ◌%◌, ◌^◌, ◌<◌, ◌≤◌, leb, Some, None, Option, sym, ap, ◌∙◌, mod-lt, div-lt_iff_lt-mul, div-add-mod', arith}
 use lib.Arith.{digits_div, digits_mod, digits_lt}
-use Rattle.std.proofs.lemmas.Bool.{cond-true, cond-false, and_from, lt-ltb, le-leb, ltb-true}
+use Rattle.std.proofs.lemmas.Bool.{cond-true, and_from, lt-ltb, le-leb}
 use Rattle.protocol.specs.Joining.{bounded, joined, left_of, right_of}
 use Rattle.protocol.proofs.Joining.{bounded_is, factors}
 use Rattle.question.specs.Halves.{halves_reply, number_reply}

@@ -1,5 +1,5 @@
 -- The replies of two questions in one number, by the replies of each. Assumes nothing.
-use Rattle.std.proofs.Common.{◌≡◌, ℕ, ◌+◌, ◌*◌, ◌/◌, ◌%◌, ◌^◌, ◌<◌, ◌≤◌, Bool, true, false, cond, ◌&&◌, eqb, ltb, leb, List, [], ◌∷◌, map, length, Some, None, Option, unwrap_or, sym, refl, ap, ◌∙◌, subst, ⊎_elim, mod-lt, mul_assoc, mul_comm, mul-le-mul_left, zero-mul, le-mul_of_pos_right, arith}
+use Rattle.std.proofs.Common.{◌≡◌, ℕ, ◌*◌, ◌/◌, ◌%◌, ◌^◌, ◌<◌, ◌≤◌, Bool, true, false, ◌&&◌, eqb, ltb, List, [], ◌∷◌, map, length, Some, None, Option, unwrap_or, sym, refl, ap, ◌∙◌, subst, ⊎_elim, mod-lt, mul_assoc, mul_comm, mul-le-mul_left, zero-mul, le-mul_of_pos_right, arith}
 use native.Mathlib.Nat.{div-div-eq-div-mul}
 use lib.Arith.{digits_div, digits_mod, mod-mul}
 use lib.ListN.{length-map}
@@ -9,10 +9,9 @@ use Rattle.protocol.specs.declared.Advice.{Advice}
 use Rattle.protocol.specs.declared.Advice.TheVariants.{Meet, Settled, Lost}
 use Rattle.protocol.specs.Protocols.{Protocol, Tables, start_reply, answer_reply, meet_reply, advice_reply, state_read, allowed_unit}
 use Rattle.protocol.specs.Joining.{one_if, answered, pair, bounded, joined, left_of, right_of, unless_settled}
-use Rattle.protocol.specs.Laws.{Lawful, Readings, Reached, Settles, done, step, StableWords, LawfulOnWords}
+use Rattle.protocol.specs.Laws.{Lawful, Settles, done, step, LawfulOnWords}
 use Rattle.protocol.specs.Places.{Advised}
 use Rattle.protocol.proofs.Places.{reached_length}
-use Rattle.reading.specs.declared.Symbol.{Symbol}
 use Rattle.protocol.proofs.Joining.{bounded_is, factors}
 use Rattle.question.specs.Halves.{halves_reply, number_reply}
 use Rattle.question.proofs.Halves.{halves_facts, number_is, some_parts}

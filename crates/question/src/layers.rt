@@ -1,8 +1,7 @@
 // Layers: questions made of questions, written once for any.
-ghost use Rattle.std.specs.Prelude.{◌≡◌, ℕ, ◌+◌, ◌*◌, Bool, Some};
+ghost use Rattle.std.specs.Prelude.{◌≡◌, ℕ, ◌+◌, ◌*◌, Bool, not, Some};
 ghost use Rattle.protocol.specs.Joining.{negated, both, one_if, pair, bit_at};
 ghost use Rattle.question.specs.Halves.{halves_reply, number_reply};
-ghost use Rattle.std.proofs.Common.{rules};
 ghost use Rattle.protocol.proofs.Joining.{answered_lawful, pair_lawful};
 
 use super::{Question, states};
@@ -24,7 +23,7 @@ pub struct Both<L, R> {
 impl<Q: Question> Question for Not<Q> {
     ghost meaning = { λ n. negated (Q.Question.meaning n.0) };
 
-    ghost lawful = { Prim.search rules };
+    ghost lawful = { λ q. answered_lawful not (Q.Question.meaning q.0).protocol (Q.Question.lawful q.0) };
 
     fn kind(&self) -> char {
         'N'

@@ -1,4 +1,6 @@
 // Questions behind one interface: what a question replies to each asking, and what it owes.
+#![tactic(auto)]
+
 ghost use Rattle.std.specs.Prelude.{◌≡◌, ℕ, Bool};
 ghost use Rattle.protocol.specs.Protocols.{Meaning, start_reply, answer_reply, meet_reply, advice_reply};
 ghost use Rattle.protocol.specs.Laws.{Lawful, LawfulOnWords};

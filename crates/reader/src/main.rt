@@ -1,4 +1,6 @@
 // Reads probe bytes from standard input, classes them, and prints their symbols and how often each came; then shows some questions.
+#![tactic(auto)]
+
 ghost use Rattle.std.specs.Prelude.{◌≡◌, map, IfOk, OnOk};
 ghost use Rattle.probe.specs.Classes.{symbol_of};
 ghost use Rattle.reader.specs.Classed.{Classed};

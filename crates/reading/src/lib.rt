@@ -1,5 +1,7 @@
 // Readings: what the probe of each tag was classed as, and how many tags of a load have each symbol.
 // A tag is the device on a crate, and a load is a number of tags; the reading of a tag is one of the symbols a to h.
+#![tactic(auto)]
+
 ghost use Rattle.std.specs.Prelude.{◌≡◌, ◌+◌, ◌^◌, ◌<◌, Some, slice_index};
 ghost use Rattle.reading.specs.Counting.{counts_of, counted};
 ghost use Rattle.reading.specs.Letters.{symbol_text, counts_text};

@@ -1,6 +1,6 @@
 -- The checks of a call: the questions that it asks of its input, and what their answers decide. Assumes nothing.
 use Rattle.std.specs.Prelude.{◌≡◌, ℕ, Bool, true, false, List, [], ◌∷◌, ◌++◌, Ok, Err, Result}
-use Rattle.std.specs.List.{AllByRecursion as All}
+use Rattle.std.specs.List.{AllByRecursion}
 use Rattle.refusal.specs.declared.Fault.{Fault}
 use Rattle.refusal.specs.declared.Refusal.{Refusal}
 
@@ -29,8 +29,8 @@ verdict (Err f ∷ rest) = Err f
 
 -- the outcome of a list of checks is its first no, or yes where there is none
 pub data FirstNo : List Check → Check → Type 0 where
-  all_yes : {cs : List Check} → All Yes cs → FirstNo cs (Ok tt)
-  refused : (before rest : List Check) (f : Fault) → All Yes before → FirstNo (before ++ (Err f ∷ rest)) (Err f)
+  all_yes : {cs : List Check} → AllByRecursion Yes cs → FirstNo cs (Ok tt)
+  refused : (before rest : List Check) (f : Fault) → AllByRecursion Yes before → FirstNo (before ++ (Err f ∷ rest)) (Err f)
 
 -- of every list of checks the verdict is the first no
 abbrev pub FirstNoDecides : Type 0

@@ -1,4 +1,6 @@
 // Refusals: what a call answers where it does not grant what it was asked.
+#![tactic(auto)]
+
 ghost use Rattle.std.specs.Prelude.{◌≡◌, Some};
 ghost use Rattle.refusal.specs.Checks.{fault_at, check, FirstNoDecides};
 ghost use Rattle.refusal.specs.Numbers.{number_of, layer_of};

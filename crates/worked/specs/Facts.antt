@@ -1,6 +1,6 @@
 -- Worked facts: a table of small questions and loads, worked by hand from the rules. Assumes nothing.
-use Rattle.std.specs.Prelude.{◌≡◌, ℕ, Bool, true, false, List, [], ◌∷◌, map, ℤ, pos, negsuc}
-use Rattle.std.specs.List.{AllByRecursion as All}
+use Rattle.std.specs.Prelude.{◌≡◌, ℕ, Bool, true, false, List, [], ◌∷◌, map, pos, negsuc}
+use Rattle.std.specs.List.{AllByRecursion}
 use Rattle.protocol.specs.declared.Advice.TheVariants.{Meet, Settled}
 use Rattle.protocol.specs.Protocols.{Protocol, Meaning, start_reply, answer_reply, meet_reply, advice_reply}
 use Rattle.protocol.specs.Places.{meeting}
@@ -38,7 +38,7 @@ Holds (meet_into m before after) = meet_reply m.protocol.tables before.0 before.
 Holds (load m symbols states meetings answer) =
     (map (start_reply m.protocol.tables) symbols ≡ states)
     × Follows m.protocol states meetings
-    × All (λ state. answer_reply m.protocol.tables state ≡ answer) (end_of states meetings)
+    × AllByRecursion (λ state. answer_reply m.protocol.tables state ≡ answer) (end_of states meetings)
 
 -- 3a < 7
 abbrev pub three_a : Meaning
@@ -68,4 +68,4 @@ facts =
 
 -- every row of the table holds
 abbrev pub WorkedFactsHold : Type 0
-WorkedFactsHold = All Holds facts
+WorkedFactsHold = AllByRecursion Holds facts

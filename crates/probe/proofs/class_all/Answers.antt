@@ -8,7 +8,7 @@ pub loop-i-preserved : goal.loop-i-preserved
 loop-i-preserved c =
     let seen = c.loop-i in
     let bytes = c.args.bytes.now in
-    ap (take _) c.class-at.ensures
+    ap (take _) c.class_at.ensures
     ∙ take_more_set seen.symbols seen.i _ (omega (arith, c.requires))
     ∙ ap (λ xs. xs ++ symbol_of (get_or bytes seen.i 0) ∷ []) seen.invariant
     ∙ sym (map_more symbol_of bytes seen.i 0 c.loop-i-test.true)

@@ -7,7 +7,7 @@ use Rattle.reader.proofs.symbols_of.Goals as goal
 
 pub returns : goal.returns
 returns c =
-    let granted = sym c.classify.ensures.result ∙ c.in-ok-classify.was in
-    with_items_is c.in-ok-symbols.symbols c.classify.new.symbols (c.classify.auto.symbols ∙ c.as-mut-slice.ensures.len)
+    let granted = sym c.classify.ensures.result ∙ c.in_ok-classify.was in
+    with_items_is c.in_ok-symbols.symbols c.classify.new.symbols (c.classify.auto.symbols ∙ c.as_mut_slice.ensures.len)
     ∙ c.classify.ensures.written
-    ∙ ap (λ v. leaves v (map symbol_of c.args.bytes.now) c.as-mut-slice.result.now) granted
+    ∙ ap (λ v. leaves v (map symbol_of c.args.bytes.now) c.as_mut_slice.result.now) granted

@@ -1,7 +1,7 @@
 -- The table is computed. Assumes nothing.
 use Rattle.std.proofs.Common.{refl}
 use Rattle.protocol.specs.Places.{lowest}
-use Rattle.worked.specs.Facts.{Follows, settled, meets}
+use Rattle.worked.specs.Facts.{settled, meets}
 use Rattle.worked.proofs.worked_facts_hold.Goals as goal
 
 pub returns : goal.returns

@@ -2,5 +2,5 @@
 use Rattle.std.proofs.Common.{length}
 use Rattle.compiled.proofs.joined.+advice_of.Given as goal
 
-abbrev pub decreases-advice-of : goal.decreases-advice-of
-decreases-advice-of l = length l.lanes.now
+abbrev pub decreases-advice_of : goal.decreases-advice_of
+decreases-advice_of l = length l.lanes.now

@@ -1,9 +1,9 @@
 -- The answers of the first lane and of the rest. Assumes nothing.
-use Rattle.std.proofs.Common.{◌≡◌, ℕ, suc, ◌+◌, ◌*◌, ◌^◌, ◌<◌, ◌∷◌, length, sym, refl, ap, ◌∙◌, subst, arith, pow_pos, rules}
+use Rattle.std.proofs.Common.{◌+◌, ◌*◌, ◌^◌, ◌<◌, length, sym, refl, ap, ◌∙◌, subst, pow_pos, rules}
 use Rattle.protocol.specs.Joining.{one_if, answers_number}
 use Rattle.question.proofs.Replies.{byte_is}
 use Rattle.compiled.specs.Lanes.{lanes_of}
-use Rattle.compiled.specs.LanesLemmas.{tail, first_and_rest, no_item, numbers, number_below, unknown}
+use Rattle.compiled.proofs.Lanes.{tail, first_and_rest, no_item, numbers, number_below, unknown}
 use Rattle.compiled.proofs.joined.+answers_of.Goals as goal
 
 pub returns-in-empty : goal.returns-in-empty
@@ -23,12 +23,12 @@ returns-in-Some t c =
     record {
       value = λ h.
           numbers lane (tail ls) _ _ refl refl c.args.state c.in-Some.first c.in-Some.others
-          c.from.result c.answers-of.result (sym c.split.ensures ∙ c.in-Some.is) (bit ∙ ap one_if c.answer.ensures) c.answers-of.ensures.value
+          c.from.result c.answers_of.result (sym c.split.ensures ∙ c.in-Some.is) (bit ∙ ap one_if c.answer.ensures) c.answers_of.ensures.value
           ∙ ap (λ ls. answers_number ((lanes_of ls).tables.answer c.args.state)) (sym shape);
       below =
-          subst (λ n. c.from.result + 2 * c.answers-of.result < 2 ^ n) (sym (ap length shape))
+          subst (λ n. c.from.result + 2 * c.answers_of.result < 2 ^ n) (sym (ap length shape))
           (number_below lane (tail ls) _ _ refl refl
-          c.from.result c.answers-of.result (length (tail ls)) c.answer.result bit c.answers-of.ensures.below);
+          c.from.result c.answers_of.result (length (tail ls)) c.answer.result bit c.answers_of.ensures.below);
     }
 
 pub returns-in-None : goal.returns-in-None

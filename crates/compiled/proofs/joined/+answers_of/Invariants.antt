@@ -2,5 +2,5 @@
 use Rattle.std.proofs.Common.{length}
 use Rattle.compiled.proofs.joined.+answers_of.Given as goal
 
-abbrev pub decreases-answers-of : goal.decreases-answers-of
-decreases-answers-of l = length l.lanes.now
+abbrev pub decreases-answers_of : goal.decreases-answers_of
+decreases-answers_of l = length l.lanes.now

@@ -1,7 +1,7 @@
 -- The number of the first lane, or of a later one. Assumes nothing.
-use Rattle.std.proofs.Common.{◌≡◌, ◌∷◌, sym, refl, ap, ◌∙◌, rules}
+use Rattle.std.proofs.Common.{◌∷◌, sym, refl, ap, ◌∙◌, rules}
 use Rattle.compiled.specs.Lanes.{lane_state_reply}
-use Rattle.compiled.specs.LanesLemmas.{tail, first_and_rest}
+use Rattle.compiled.proofs.Lanes.{tail, first_and_rest}
 use Rattle.compiled.proofs.Numbers.{lane_here, lane_later, lane_none}
 use Rattle.compiled.proofs.joined.+lane_state_of.Goals as goal
 
@@ -20,7 +20,7 @@ returns-else-place-eq0 t c =
     let ls = c.args.lanes.now in
     let lane = c.lane-item.result in
     let state = c.args.state in
-    c.lane-state-of.ensures
+    c.lane_state_of.ensures
     ∙ lane_later lane (tail ls) _ _ refl refl c.args.place state c.in-Some.first c.in-Some.others
     c.if-place-eq0.false (sym c.split.ensures ∙ c.in-Some.is)
     ∙ ap (λ ls. lane_state_reply ls c.args.place state) (sym (first_and_rest ls lane (search rules) c.lane-item.is))

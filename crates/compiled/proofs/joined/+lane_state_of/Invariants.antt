@@ -2,5 +2,5 @@
 use Rattle.std.proofs.Common.{length}
 use Rattle.compiled.proofs.joined.+lane_state_of.Given as goal
 
-abbrev pub decreases-lane-state-of : goal.decreases-lane-state-of
-decreases-lane-state-of l = length l.lanes.now
+abbrev pub decreases-lane_state_of : goal.decreases-lane_state_of
+decreases-lane_state_of l = length l.lanes.now

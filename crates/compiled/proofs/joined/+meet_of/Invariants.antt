@@ -2,5 +2,5 @@
 use Rattle.std.proofs.Common.{length}
 use Rattle.compiled.proofs.joined.+meet_of.Given as goal
 
-abbrev pub decreases-meet-of : goal.decreases-meet-of
-decreases-meet-of l = length l.lanes.now
+abbrev pub decreases-meet_of : goal.decreases-meet_of
+decreases-meet_of l = length l.lanes.now

@@ -1,21 +1,21 @@
 -- The first number and those of the rest. Assumes nothing.
-use Rattle.std.proofs.Common.{◌≡◌, [], ◌∷◌, length, get_or, sym, refl, ap, ◌∙◌, rules}
+use Rattle.std.proofs.Common.{[], ◌∷◌, length, get_or, sym, refl, ap, ◌∙◌, rules}
 use Rattle.std.proofs.lemmas.Bool.{eqb-true}
 use Rattle.compiled.specs.Lanes.{number_reply}
-use Rattle.compiled.specs.LanesLemmas.{tail, first_and_rest, no_item}
+use Rattle.compiled.proofs.Lanes.{tail, first_and_rest, no_item}
 use Rattle.compiled.proofs.Numbers.{number_all, number_none, number_and_rest, no_lane}
 use Rattle.compiled.proofs.joined.+number_of.Goals as goal
 
-pub returns-then-is-empty : goal.returns-then-is-empty
-returns-then-is-empty t c =
+pub returns-then-is_empty : goal.returns-then-is_empty
+returns-then-is_empty t c =
     let ns = c.args.numbers.now in
-    ap (number_reply []) (sym (no_item ns (eqb-true (length ns) 0 (sym c.if-is-empty.ensures))))
+    ap (number_reply []) (sym (no_item ns (eqb-true (length ns) 0 (sym c.if-is_empty.ensures))))
     ∙ ap (λ ls. number_reply ls ns) (sym (no_item c.args.lanes.now (search rules)))
 
-pub returns-else-is-empty : goal.returns-else-is-empty
-returns-else-is-empty t c =
+pub returns-else-is_empty : goal.returns-else-is_empty
+returns-else-is_empty t c =
     let ns = c.args.numbers.now in
-    no_lane ns c.if-is-empty.ensures
+    no_lane ns c.if-is_empty.ensures
     ∙ ap (λ ls. number_reply ls ns) (sym (no_item c.args.lanes.now (search rules)))
 
 pub returns-in-Some : goal.returns-in-Some

@@ -2,5 +2,5 @@
 use Rattle.std.proofs.Common.{length}
 use Rattle.compiled.proofs.joined.+number_of.Given as goal
 
-abbrev pub decreases-number-of : goal.decreases-number-of
-decreases-number-of l = length l.lanes.now
+abbrev pub decreases-number_of : goal.decreases-number_of
+decreases-number_of l = length l.lanes.now

@@ -2,5 +2,5 @@
 use Rattle.std.proofs.Common.{length}
 use Rattle.compiled.proofs.joined.+size_of.Given as goal
 
-abbrev pub decreases-size-of : goal.decreases-size-of
-decreases-size-of l = length l.lanes.now
+abbrev pub decreases-size_of : goal.decreases-size_of
+decreases-size_of l = length l.lanes.now

@@ -2,5 +2,5 @@
 use Rattle.std.proofs.Common.{length}
 use Rattle.compiled.proofs.joined.+weight_of.Given as goal
 
-abbrev pub decreases-weight-of : goal.decreases-weight-of
-decreases-weight-of l = length l.lanes.now
+abbrev pub decreases-weight_of : goal.decreases-weight_of
+decreases-weight_of l = length l.lanes.now

@@ -1,5 +1,5 @@
 -- The coefficients so far fit. Assumes nothing.
-use Rattle.std.proofs.Common.{◌≡◌, true, take, drop}
+use Rattle.std.proofs.Common.{◌≡◌, drop}
 use Rattle.kinds.specs.Ranges.{coefficients_fit}
 use Rattle.kinds.proofs.numbers.coefficients_fit.Given as goal
 

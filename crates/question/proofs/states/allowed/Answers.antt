@@ -1,5 +1,5 @@
 -- The product is compared by a quotient. Assumes nothing.
-use Rattle.std.proofs.Common.{◌∙◌, arith}
+use Rattle.std.proofs.Common.{arith}
 use Rattle.std.proofs.lemmas.Bool.Decides.{nat_tests}
 use Rattle.question.proofs.Units.{quotient_test}
 use Rattle.question.proofs.states.allowed.Goals as goal

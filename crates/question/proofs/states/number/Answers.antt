@@ -1,12 +1,11 @@
 -- The number of known halves is known, and its halves are they. Assumes nothing.
-use Rattle.std.proofs.Common.{◌≡◌, ◌*◌, ◌^◌, ◌≤◌, sym, ap, ◌∙◌, arith}
-use Rattle.question.specs.Halves.{halves_reply, number_reply}
+use Rattle.std.proofs.Common.{sym, arith}
 use Rattle.question.proofs.Units.{allowed_facts}
 use Rattle.question.proofs.Halves.{number_facts, number_is, number_undone}
 use Rattle.question.proofs.states.number.Goals as goal
 
-pub overflow-cast-result : goal.overflow-cast-result
-overflow-cast-result c =
+pub overflow_cast-result : goal.overflow_cast-result
+overflow_cast-result c =
     let fits = (allowed_facts c.args.lefts c.args.rights (sym c.if-allowed.ensures)).2 in
     let it = number_facts c.args.lefts c.args.rights c.from-left.result c.from-right.result fits c.if-left-lefts.true c.if-right-rights.true in
     record { fits = omega arith }

@@ -8,18 +8,18 @@ use Rattle.reader.proofs.lines.read.Goals as goal
 
 pub loop-word-init : goal.loop-word-init
 loop-word-init c =
-    let whole = ap split_whitespace_rest c.into-iter-word-iterator.ensures.into-iter-gives ∙ c.split-whitespace-word-items.ensures.rest in
+    let whole = ap split_whitespace_rest c.into_iter-word-iterator.ensures.into_iter_gives ∙ c.split_whitespace-word-items.ensures.rest in
     rw (whole, c.new-bytes.ensures.items, c.new-others.ensures.items) (record { seen = []; parted = none; before = λ ws h. h })
 
-pub loop-word-preserved-in-Continue· : goal.loop-word-preserved-in-Continue·
-loop-word-preserved-in-Continue· c =
+pub loop-word-preserved-in-Continue-1 : goal.loop-word-preserved-in-Continue-1
+loop-word-preserved-in-Continue-1 c =
     let first = first_of _ c.in-Some.word.now _ c.in-Some.ensures.steps in
-    one_byte c.loop-word.invariant first (parsed _ _ c.in-Ok.ensures.value.0) c.in-ok-push.ensures.items
+    one_byte c.loop-word.invariant first (parsed _ _ c.in-Ok.ensures.value.0) c.in_ok-push-in-Ok.ensures.items
 
 pub loop-word-preserved : goal.loop-word-preserved
 loop-word-preserved c =
     let first = first_of _ c.in-Some.word.now _ c.in-Some.ensures.steps in
-    one_other c.loop-word.invariant first (not_parsed _ c.in-Err.ensures.value.0) (ap (map (λ x. x.now)) c.in-ok-push-2.ensures.items ∙ map_push (λ x. x.now) _ _)
+    one_other c.loop-word.invariant first (not_parsed _ c.in-Err.ensures.value.0) (ap (map (λ x. x.now)) c.in_ok-push-in-Err.ensures.items ∙ map_push (λ x. x.now) _ _)
 
 pub returns : goal.returns
 returns c = all_parsed c.loop-word.invariant c.in-None.ensures.steps.1

@@ -7,7 +7,7 @@ use Rattle.reading.proofs.Counts.of.Goals as goal
 pub add-requires : goal.add-requires
 add-requires c =
     let first : Symbol = record { 0 = 0 } in
-    omega (arith, c.well-formed, few c.args.symbols.now c.loop-symbol.symbol-index c.loop-symbol.counts.0 first c.loop-symbol-test.true c.loop-symbol.invariant (get_or c.args.symbols.now c.loop-symbol.symbol-index first).0)
+    omega (arith, c.well_formed, few c.args.symbols.now c.loop-symbol.symbol-index c.loop-symbol.counts.0 first c.loop-symbol-test.true c.loop-symbol.invariant (get_or c.args.symbols.now c.loop-symbol.symbol-index first).0)
 
 pub loop-symbol-preserved : goal.loop-symbol-preserved
 loop-symbol-preserved c = subst (Counted _ _) (sym c.add.ensures) (one_more _ _ _ _ c.loop-symbol-test.true c.loop-symbol.invariant)

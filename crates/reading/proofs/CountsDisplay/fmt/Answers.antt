@@ -5,5 +5,5 @@ use Rattle.reading.proofs.CountsDisplay.fmt.Goals as goal
 
 pub returns-clause-writes : goal.returns-clause-writes
 returns-clause-writes g c plain ok =
-    let first = c.write.ensures.writes plain (ap is_ok c.in-ok-write.was) in
+    let first = c.write.ensures.writes plain (ap is_ok c.in_ok-write.was) in
     has_written_of_eq _ _ _ _ _ (simp append_assoc) (has_written_append _ _ _ _ _ _ first (c.write-2.ensures.writes first.plain ok))

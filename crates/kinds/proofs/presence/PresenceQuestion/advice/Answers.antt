@@ -21,11 +21,11 @@ returns-in-Some-lowest-2 c =
     let d = c.in-Some.digit in
     let made = c.in-Some.ensures in
     sym (by_two c.args.self.now.mask c.args.words.now c.args.unit d.unit d.size (Some c.in-Some-lowest.first) (Some c.in-Some-lowest-2.second)
-    made.test made.some c.if-is-empty.ensures c.in-Some-lowest.ensures c.in-Some-lowest-2.ensures)
+    made.test made.some c.if-is_empty.ensures c.in-Some-lowest.ensures c.in-Some-lowest-2.ensures)
 
 pub returns-in-None : goal.returns-in-None
 returns-in-None c =
     let d = c.in-Some.digit in
     let made = c.in-Some.ensures in
     sym (by_two c.args.self.now.mask c.args.words.now c.args.unit d.unit d.size (Some c.in-Some-lowest.first) None
-    made.test made.some c.if-is-empty.ensures c.in-Some-lowest.ensures c.in-None.ensures)
+    made.test made.some c.if-is_empty.ensures c.in-Some-lowest.ensures c.in-None.ensures)

@@ -1,5 +1,5 @@
 -- What each search finds is what the rules name. Assumes nothing.
-use Rattle.std.proofs.Common.{◌≡◌, ◌<◌, length, Some, None, sym, ◌∙◌, arith, rules}
+use Rattle.std.proofs.Common.{◌<◌, length, Some, None, sym, rules}
 use Rattle.protocol.specs.Sums.{lead_part}
 use Rattle.kinds.proofs.Led.{found_within}
 use Rattle.kinds.proofs.RemainderAdvice.{merges, corrects}
@@ -13,8 +13,8 @@ returns-in-Some-lowest-2 c =
     sym (merges q.coefficients q.modulus q.residue c.args.words.now c.args.unit c.size.result d.unit d.size c.in-Some-lowest.leader
     c.size.ensures made.test made.some c.in-Some-lowest.ensures c.in-Some-lowest-2.partner c.in-Some-lowest-2.ensures)
 
-pub offset-bounds-words-leader : goal.offset-bounds-words-leader
-offset-bounds-words-leader c =
+pub offset_bounds-words-leader : goal.offset_bounds-words-leader
+offset_bounds-words-leader c =
     let d = c.in-Some.digit in
     let h : c.in-Some-lowest.leader < length c.args.words.now = found_within (λ _. lead_part) d.unit d.size c.args.words.now c.in-Some-lowest.leader c.in-Some-lowest.ensures in
     search rules
@@ -30,7 +30,7 @@ returns-in-Some-lowest-3 c =
     let d = c.in-Some.digit in
     let made = c.in-Some.ensures in
     sym (corrects q.coefficients q.modulus q.residue c.args.words.now c.args.unit c.size.result d.unit d.size c.in-Some-lowest.leader
-    c.size.ensures made.test made.some c.in-Some-lowest.ensures c.in-default-lowest-2.ensures c.of.result c.of.ensures
+    c.size.ensures made.test made.some c.in-Some-lowest.ensures c.in_default-lowest-2.ensures c.of.result c.of.ensures
     (Some c.in-Some-lowest-3.partner) c.in-Some-lowest-3.ensures)
 
 pub returns-in-None : goal.returns-in-None
@@ -39,5 +39,5 @@ returns-in-None c =
     let d = c.in-Some.digit in
     let made = c.in-Some.ensures in
     sym (corrects q.coefficients q.modulus q.residue c.args.words.now c.args.unit c.size.result d.unit d.size c.in-Some-lowest.leader
-    c.size.ensures made.test made.some c.in-Some-lowest.ensures c.in-default-lowest-2.ensures c.of.result c.of.ensures
+    c.size.ensures made.test made.some c.in-Some-lowest.ensures c.in_default-lowest-2.ensures c.of.result c.of.ensures
     None c.in-None.ensures)

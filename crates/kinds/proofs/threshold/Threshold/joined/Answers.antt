@@ -5,20 +5,20 @@ use Rattle.kinds.proofs.ThresholdSpan.{span_small, bound_cast}
 use Rattle.kinds.proofs.ThresholdNumbers.{small_fits, sum_fits, kept_is, kept_cast, kept_room, rest_fits, rest_cast, rest_room, joined_numbers}
 use Rattle.kinds.proofs.threshold.Threshold.joined.Goals as goal
 
-pub overflow-cast-span : goal.overflow-cast-span
-overflow-cast-span c =
+pub overflow_cast-span : goal.overflow_cast-span
+overflow_cast-span c =
     let q = c.args.self.now in
     let few : q.span ≤ 1000 = span_small q.coefficients q.bound q.span q.fits q.wide in
     small_fits (pos q.span) (omega arith)
 
-pub overflow-add-sum : goal.overflow-add-sum
-overflow-add-sum c =
+pub overflow_add-sum : goal.overflow_add-sum
+overflow_add-sum c =
     let q = c.args.self.now in
     let few : q.span ≤ 1000 = span_small q.coefficients q.bound q.span q.fits q.wide in
     sum_fits q.span c.args.a.value c.args.b.value few c.requires.first c.requires.second
 
-pub overflow-sub-span : goal.overflow-sub-span
-overflow-sub-span c =
+pub overflow_sub-span : goal.overflow_sub-span
+overflow_sub-span c =
     let q = c.args.self.now in
     let few : q.span ≤ 1000 = span_small q.coefficients q.bound q.span q.fits q.wide in
     small_fits _ (omega (arith, ints))
@@ -29,8 +29,8 @@ clamp-kept-requires c =
     let few : q.span ≤ 1000 = span_small q.coefficients q.bound q.span q.fits q.wide in
     omega (arith, ints)
 
-pub overflow-sub-second : goal.overflow-sub-second
-overflow-sub-second c =
+pub overflow_sub-second : goal.overflow_sub-second
+overflow_sub-second c =
     let q = c.args.self.now in
     let few : q.span ≤ 1000 = span_small q.coefficients q.bound q.span q.fits q.wide in
     rest_fits q.span c.args.a.value c.args.b.value few c.requires.first c.requires.second c.clamp-kept.result c.clamp-kept.ensures.value

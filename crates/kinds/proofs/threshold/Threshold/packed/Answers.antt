@@ -7,20 +7,20 @@ use Rattle.kinds.proofs.ThresholdSpan.{span_small}
 use Rattle.kinds.proofs.ThresholdNumbers.{offset_fits, offset_cast, offset_positive}
 use Rattle.kinds.proofs.threshold.Threshold.packed.Goals as goal
 
-pub overflow-cast-value : goal.overflow-cast-value
-overflow-cast-value c =
+pub overflow_cast-value : goal.overflow_cast-value
+overflow_cast-value c =
     let q = c.args.self.now in
     let few : q.span ≤ 1000 = span_small q.coefficients q.bound q.span q.fits q.wide in
     search rules
 
-pub overflow-add-value : goal.overflow-add-value
-overflow-add-value c =
+pub overflow_add-value : goal.overflow_add-value
+overflow_add-value c =
     let q = c.args.self.now in
     let few : q.span ≤ 1000 = span_small q.coefficients q.bound q.span q.fits q.wide in
     offset_fits q.span c.args.fields.value few c.requires
 
-pub overflow-cast-value-2 : goal.overflow-cast-value-2
-overflow-cast-value-2 c =
+pub overflow_cast-value-2 : goal.overflow_cast-value-2
+overflow_cast-value-2 c =
     let q = c.args.self.now in
     let few : q.span ≤ 1000 = span_small q.coefficients q.bound q.span q.fits q.wide in
     let is = offset_cast q.span c.args.fields.value few c.requires in

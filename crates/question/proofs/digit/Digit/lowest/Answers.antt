@@ -1,5 +1,5 @@
 -- The first place that passes is the lowest, and where none does there is none. Assumes nothing.
-use Rattle.std.proofs.Common.{◌≡◌, ℕ, ◌<◌, true, false, map, length, get_or, sym, ap, ◌∙◌, arith}
+use Rattle.std.proofs.Common.{ℕ, map, length, sym, ap, ◌∙◌, arith}
 use lib.ListN.{length-map}
 use Rattle.std.proofs.lemmas.List.{get_or-map}
 use Rattle.protocol.specs.Protocols.{state_read}
@@ -7,8 +7,8 @@ use Rattle.protocol.specs.Places.{state_at, lowest}
 use Rattle.protocol.proofs.Places.{lowest_is, lowest_fails}
 use Rattle.question.proofs.digit.Digit.lowest.Goals as goal
 
-pub returns-then-passes-at : goal.returns-then-passes-at
-returns-then-passes-at g c =
+pub returns-then-passes_at : goal.returns-then-passes_at
+returns-then-passes_at g c =
     let words = c.args.words.now in
     let read : ℕ → ℕ = state_read c.args.self.now.unit c.args.self.now.size in
     let passes = g.T.Test.passes c.args.test.now in
@@ -16,7 +16,7 @@ returns-then-passes-at g c =
     let here = c.loop-place-test.true in
     sym (ap (lowest (λ k. passes k (state_at (map read words) k))) (length-map words read)
     ∙ lowest_is (λ k. passes k (state_at (map read words) k)) (length words) place here
-    (ap (passes place) (get_or-map read words place 0 0 here ∙ sym c.of.ensures) ∙ sym c.if-passes-at.ensures)
+    (ap (passes place) (get_or-map read words place 0 0 here ∙ sym c.of.ensures) ∙ sym c.if-passes_at.ensures)
     (λ k h. ap (passes k) (get_or-map read words k 0 0 (omega arith)) ∙ c.loop-place.invariant k h))
 
 pub returns : goal.returns

@@ -3,5 +3,5 @@ use Rattle.std.proofs.Common.{sym, ◌∙◌}
 use Rattle.question.proofs.Units.{allowed_facts}
 use Rattle.question.proofs.digit.Digit.new.Goals as goal
 
-pub invariant-of-result : goal.invariant-of-result
-invariant-of-result c = (allowed_facts c.args.unit c.args.size (sym c.allowed.ensures ∙ c.if-allowed.true), tt)
+pub invariant_of-result : goal.invariant_of-result
+invariant_of-result c = record { fits = allowed_facts c.args.unit c.args.size (sym c.allowed.ensures ∙ c.if-allowed.true) }

@@ -1,5 +1,5 @@
 -- The answer is the rule's, for the answers of the halves. Assumes nothing.
-use Rattle.std.proofs.Common.{◌≡◌, ◌+◌, ◌*◌, Bool, sym, ap, ◌∙◌}
+use Rattle.std.proofs.Common.{◌+◌, ◌*◌, sym, ap, ◌∙◌}
 use Rattle.protocol.specs.Protocols.{answer_reply}
 use Rattle.protocol.specs.Joining.{bit_at, one_if}
 use Rattle.question.proofs.Replies.{answer_joined}
@@ -12,9 +12,9 @@ returns g c =
     let r = (g.R.Question.meaning b.right).protocol in
     let is = answer_joined (λ x. bit_at b.rule (2 * one_if x.0 + one_if x.1)) l r c.args.state c.in-Some.left c.in-Some.right
     (sym c.halves.ensures.value ∙ c.in-Some.is) in
-    c.bit-at.ensures
-    ∙ ap (λ n. bit_at n c.index-of-answers.result) c.from.ensures
-    ∙ ap (bit_at b.rule) c.index-of-answers.ensures
+    c.bit_at.ensures
+    ∙ ap (λ n. bit_at n c.index_of-answers.result) c.from.ensures
+    ∙ ap (bit_at b.rule) c.index_of-answers.ensures
     ∙ ap (λ x. bit_at b.rule (2 * one_if x + one_if c.answer-2.result)) c.answer.ensures
     ∙ ap (λ x. bit_at b.rule (2 * one_if (answer_reply l.tables c.in-Some.left) + one_if x)) c.answer-2.ensures
     ∙ sym is

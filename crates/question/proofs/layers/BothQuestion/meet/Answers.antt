@@ -1,5 +1,5 @@
 -- Both halves meet. Assumes nothing.
-use Rattle.std.proofs.Common.{◌≡◌, ℕ, unwrap_or, sym, ap, ◌∙◌}
+use Rattle.std.proofs.Common.{ℕ, unwrap_or, sym, ap, ◌∙◌}
 use Rattle.protocol.specs.Protocols.{meet_reply}
 use Rattle.protocol.proofs.Joining.{pairs}
 use Rattle.question.specs.Halves.{number_reply}
@@ -16,11 +16,11 @@ returns g c =
     c.in-Some-Some.a.0 c.in-Some-Some.a.1 c.in-Some-Some.b.0 c.in-Some-Some.b.1
     (sym c.halves.ensures.value ∙ c.in-Some-Some.is-0) (sym c.halves-2.ensures.value ∙ c.in-Some-Some.is-1) in
     pairs
-    (c.unwrap-or.ensures ∙ ap (λ o. unwrap_or o c.args.first) c.number.ensures.value
+    (c.unwrap_or.ensures ∙ ap (λ o. unwrap_or o c.args.first) c.number.ensures.value
     ∙ ap (λ x. number x.0 c.meet-right.result.0 c.args.first) c.meet-left.ensures
     ∙ ap (λ y. number (meet_reply l.tables c.in-Some-Some.a.0 c.in-Some-Some.b.0).0 y.0 c.args.first) c.meet-right.ensures
     ∙ is.0)
-    (c.unwrap-or-2.ensures ∙ ap (λ o. unwrap_or o c.args.second) c.number-2.ensures.value
+    (c.unwrap_or-2.ensures ∙ ap (λ o. unwrap_or o c.args.second) c.number-2.ensures.value
     ∙ ap (λ x. number x.1 c.meet-right.result.1 c.args.second) c.meet-left.ensures
     ∙ ap (λ y. number (meet_reply l.tables c.in-Some-Some.a.0 c.in-Some-Some.b.0).1 y.1 c.args.second) c.meet-right.ensures
     ∙ is.1)

@@ -1,0 +1,4 @@
+pub mod Following
+pub mod Stability
+pub mod Settle
+pub mod Steps
