@@ -16,7 +16,7 @@ pub enum Lane {
     Presence(Presence),
 }
 
-// The reply of the lane's question, whatever its kind.
+// The reply of the lane's question. A macro, since no closure is generic over the kinds and no function may hand out a `&dyn Question`.
 macro_rules! asked {
     ($lane:expr, $question:ident => $reply:expr) => {
         match $lane {
@@ -30,7 +30,7 @@ macro_rules! asked {
 impl Question for Lane {
     ghost meaning = { lane_meaning };
 
-    ghost lawful = { λ q. lane_lawful q };
+    ghost lawful = { lane_lawful };
 
     fn kind(&self) -> char {
         asked!(self, q => q.kind())

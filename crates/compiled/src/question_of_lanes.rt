@@ -1,5 +1,5 @@
 // The compiled question.
-ghost use Rattle.std.specs.Prelude.{◌≡◌, ℕ, ◌+◌, ◌^◌, ◌<◌, ◌≤◌, Bool, List, length, take, Some, Ok, Err, nat_lt, slice_index};
+ghost use Rattle.std.specs.Prelude.{◌≡◌, ℕ, ◌+◌, ◌^◌, ◌<◌, ◌≤◌, Bool, List, length, take, Some, Ok, Err, MatchResult, nat_lt, slice_index};
 ghost use Rattle.protocol.specs.Joining.{compiled, bit_at, answers_number};
 ghost use Rattle.refusal.specs.Checks.{verdict};
 ghost use Rattle.compiled.specs.Lanes.{lane_protocols, lanes_of, number_reply, lane_state_reply, states_checks, lanes_checks};
@@ -10,8 +10,8 @@ use super::joined;
 use super::lane::Lane;
 use kinds::Presence;
 use protocol::Advice;
-use question::states::bit_at;
-use question::{Question, states};
+use question::Question;
+use question::states::{Sizes, bit_at};
 use reading::Symbol;
 use refusal::{Fault, Refusal};
 
@@ -19,6 +19,7 @@ use refusal::{Fault, Refusal};
 pub const MAX_LANES: usize = 6;
 
 // One to six lanes, kept as they were given, and a table: bit t is the answer where t has bit k for each lane k that answers yes.
+// An array with a count, since no call of the libraries takes memory from the heap, and a question is Copy.
 #[derive(Clone, Copy)]
 pub struct Compiled {
     kept: [Lane; MAX_LANES],
@@ -36,30 +37,24 @@ fn table_fits(lanes: usize, table: u64) -> bool
     requires { lanes ≤ 6 }
     ensures { result ≡ nat_lt table (2 ^ (2 ^ lanes)) }
 {
-    match lanes {
-        0 => table < 1 << 1,
-        1 => table < 1 << 2,
-        2 => table < 1 << 4,
-        3 => table < 1 << 8,
-        4 => table < 1 << 16,
-        5 => table < 1 << 32,
-        _ => true,
-    }
+    table.unbounded_shr(1 << lanes) == 0
 }
 
-// With each lane, from this place on, the states still fit words of 32 bits; `product` is how many those before have together.
-fn check_states(lanes: &[Lane], product: u64, place: usize) -> Result<(), Fault>
-    requires { (0 < product) × (place + length lanes.now ≤ 6) }
-    ensures { result ≡ verdict (states_checks product place lanes.now) }
+// With each lane in turn, the states still fit words of 32 bits.
+fn check_states(lanes: &[Lane]) -> Result<(), Fault>
+    ensures { result ≡ verdict (states_checks 1 0 lanes.now) }
 {
-    match lanes {
-        [] => Ok(()),
-        [lane, rest @ ..] => {
-            let product = states::product(product, lane.size());
-            Refusal::TooManyStates.unless(product > 0, place)?;
-            check_states(rest, product, place + 1)
-        }
+    // A loop with a `?`: a `try_fold` would be no shorter.
+    let mut product = 1;
+    for (place, lane) in lanes.iter().enumerate() {
+        let sizes = Sizes {
+            left: product,
+            right: lane.size(),
+        };
+        product = sizes.product();
+        Refusal::TooManyStates.unless(product > 0, place)?;
     }
+    Ok(())
 }
 
 // What is asked of lanes and a table, in this order: no lane, more than six (at the seventh), more states than words of 32 bits can
@@ -69,7 +64,7 @@ fn check_lanes(lanes: &[Lane], table: u64) -> Result<(), Fault>
 {
     Refusal::LengthMismatch.unless(!lanes.is_empty(), 0)?;
     Refusal::TooManyAtoms.unless(lanes.len() <= MAX_LANES, MAX_LANES)?;
-    check_states(lanes, 1, 0)?;
+    check_states(lanes)?;
     Refusal::NumberRange.unless(table_fits(lanes.len(), table), 0)
 }
 
@@ -80,16 +75,18 @@ fn padded(lanes: &[Lane]) -> [Lane; MAX_LANES]
     ensures six { length result ≡ 6 }
 {
     let mut all = [Lane::Presence(Presence { mask: 0 }); MAX_LANES];
-    for (place, lane) in lanes.iter().enumerate() {
-        all[place] = *lane;
-    }
+    all[..lanes.len()].copy_from_slice(lanes);
     all
 }
 
 impl Compiled {
+    ghost use Rattle.compiled.specs.Compiled.{lanes_in};
+
     // Lanes in their order, kept as they are given, and a table; what does not fit is refused, not mended.
     pub fn new(lanes: &[Lane], table: u64) -> Result<Compiled, Fault>
-        ensures { elim result [ Ok q ↦ (verdict (lanes_checks lanes.now table) ≡ Ok tt) × (take q.count q.kept ≡ lanes.now) × (q.table ≡ table) | Err f ↦ verdict (lanes_checks lanes.now table) ≡ Err f ] }
+        ensures { MatchResult result
+            (λ q. (verdict (lanes_checks lanes.now table) ≡ Ok tt) × (lanes_in q ≡ lanes.now) × (q.table ≡ table))
+            (λ f. verdict (lanes_checks lanes.now table) ≡ Err f) }
     {
         check_lanes(lanes, table)?;
         Ok(Compiled {
@@ -101,23 +98,23 @@ impl Compiled {
 
     // The lanes, in their order.
     pub fn lanes(&self) -> &[Lane]
-        ensures { result.now ≡ take self.now.count self.now.kept }
+        ensures { result.now ≡ lanes_in self.now }
     {
-        &self.kept[0..self.count]
+        &self.kept[..self.count]
     }
 
     // The number of the lane at a place in a state: none for an unknown state or a lane that is not there.
     pub fn lane_state(&self, place: usize, state: u32) -> Option<u32>
-        ensures value { result ≡ lane_state_reply (take self.now.count self.now.kept) place state }
-        ensures undone { (ns : List ℕ) → length ns ≡ length (take self.now.count self.now.kept) → ((k : ℕ) → k < length ns → lane_state_reply (take self.now.count self.now.kept) k state ≡ Some (slice_index ns k)) → number_reply (take self.now.count self.now.kept) ns ≡ Some state }
+        ensures value { result ≡ lane_state_reply (lanes_in self.now) place state }
+        ensures undone { (ns : List ℕ) → length ns ≡ length (lanes_in self.now) → ((k : ℕ) → k < length ns → lane_state_reply (lanes_in self.now) k state ≡ Some (slice_index ns k)) → number_reply (lanes_in self.now) ns ≡ Some state }
     {
         joined::lane_state_of(self.lanes(), place, state)
     }
 
     // The state of one number a lane: none where there are not as many numbers as lanes, and where one is unknown.
     pub fn number(&self, numbers: &[u32]) -> Option<u32>
-        ensures value { result ≡ number_reply (take self.now.count self.now.kept) numbers.now }
-        ensures undone { (state k : ℕ) → result ≡ Some state → k < length numbers.now → lane_state_reply (take self.now.count self.now.kept) k state ≡ Some (slice_index numbers.now k) }
+        ensures value { result ≡ number_reply (lanes_in self.now) numbers.now }
+        ensures undone { (state k : ℕ) → result ≡ Some state → k < length numbers.now → lane_state_reply (lanes_in self.now) k state ≡ Some (slice_index numbers.now k) }
     {
         joined::number_of(self.lanes(), numbers)
     }
@@ -130,10 +127,12 @@ impl Compiled {
 }
 
 impl Question for Compiled {
-    ghost meaning = { λ q. compiled (lane_protocols (take q.count q.kept)) q.table };
+    ghost use Rattle.compiled.specs.Compiled.{lanes_in};
+
+    ghost meaning = { λ q. compiled (lane_protocols (lanes_in q)) q.table };
 
     ghost lawful = { λ q.
-        let ls = take q.count q.kept in
+        let ls = lanes_in q in
         answered_lawful (λ bs. bit_at q.table (answers_number bs)) (lanes_of ls) (lanes_of_lawful ls) };
 
     fn kind(&self) -> char {
@@ -149,8 +148,7 @@ impl Question for Compiled {
     }
 
     fn answer(&self, state: u32) -> bool {
-        u64::from(state) < self.size()
-            && bit_at(self.table, joined::answers_of(self.lanes(), state))
+        joined::answers_of(self.lanes(), state).is_some_and(|answers| bit_at(self.table, answers))
     }
 
     fn meet(&self, first: u32, second: u32) -> (u32, u32) {

@@ -1,12 +1,12 @@
 -- The numbers of which questions are made. Assumes nothing.
-use Rattle.std.specs.Prelude.{ℕ, Bool, true, ◌&&◌, List, [], ◌∷◌, ℤ, nat_le, nat_lt, unsigned_abs}
+use Rattle.std.specs.Prelude.{ℕ, Bool, ◌&&◌, List, [], ◌∷◌, ℤ, nat_le, nat_lt, unsigned_abs}
+use Rattle.std.specs.List.{list_all}
 use Rattle.refusal.specs.Checks.{Check, check}
 use Rattle.refusal.specs.declared.Refusal.TheVariants.{NumberRange}
 
 -- each coefficient from -99 to 99
 abbrev pub coefficients_fit : List ℤ → Bool
-coefficients_fit [] = true
-coefficients_fit (k ∷ ks) = nat_le (unsigned_abs k) 99 && coefficients_fit ks
+coefficients_fit = list_all (λ k. nat_le (unsigned_abs k) 99)
 
 -- and the bound from -999 to 999
 abbrev pub threshold_fits : List ℤ → ℤ → Bool

@@ -1,29 +1,20 @@
-// What thresholds and remainders share: the ranges of their numbers, and the fields in a state number.
-ghost use Rattle.std.specs.Prelude.{◌≡◌, ℕ, ◌^◌, ◌<◌, Bool, nat_le, unsigned_abs};
-ghost use Rattle.protocol.specs.Sums.{packed, lead_part, bit_part};
+// What thresholds and remainders share: the range of their coefficients, and the fields in a state number.
+ghost use Rattle.std.specs.Prelude.{◌≡◌, ◌^◌, ◌<◌, cond, Some, None, nat_lt};
+ghost use Rattle.protocol.specs.Sums.{packed, value_part, lead_part, bit_part};
 ghost use Rattle.kinds.specs.Ranges.{coefficients_fit};
 
-use question::digit::Test;
+use protocol::Fields;
 
 // How far a coefficient is from 0 at most.
 const MAX_COEFFICIENT: u32 = 99;
-
-fn coefficient_fits(k: i32) -> bool
-    ensures { result ≡ nat_le (unsigned_abs k) 99 }
-{
-    k.unsigned_abs() <= MAX_COEFFICIENT
-}
 
 // Whether each coefficient is one of -99 to 99.
 pub(crate) fn coefficients_fit(coefficients: &[i32]) -> bool
     ensures { result ≡ coefficients_fit coefficients.now }
 {
-    for k in coefficients {
-        if !coefficient_fits(*k) {
-            return false;
-        }
-    }
-    true
+    coefficients
+        .iter()
+        .all(|k| k.unsigned_abs() <= MAX_COEFFICIENT)
 }
 
 // Whether a tag in this state leads.
@@ -40,22 +31,28 @@ pub(crate) fn bit_of(state: u32) -> bool
     state % 2 == 1
 }
 
-// The number of a value's number, a lead and a bit.
-pub(crate) fn pack(value: u32, lead: bool, bit: bool) -> u32
-    requires { value < 2 ^ 29 }
-    ensures { result ≡ packed value lead bit }
+// The number of the value of a tag in this state.
+pub(crate) fn value_of(state: u32) -> u32
+    ensures { result ≡ value_part state }
 {
-    value * 4 + 2 * u32::from(lead) + u32::from(bit)
+    state / 4
 }
 
-// The tags that lead.
-#[derive(Clone, Copy)]
-pub(crate) struct Leading;
+// The state number of fields whose value is its own number.
+pub(crate) fn pack(fields: Fields<u32>) -> u32
+    requires { fields.value < 2 ^ 29 }
+    ensures { result ≡ packed fields.value fields.lead fields.bit }
+{
+    fields.value * 4 + 2 * u32::from(fields.lead) + u32::from(fields.bit)
+}
 
-impl Test for Leading {
-    ghost passes = { λ _ _ state. lead_part state };
-
-    fn passes_at(&self, _place: usize, state: u32) -> bool {
-        leads(state)
-    }
+// The fields in one of so many state numbers, the value as its number; none for an unknown one.
+pub(crate) fn unpack(state: u32, size: u64) -> Option<Fields<u32>>
+    ensures { result ≡ cond (nat_lt state size) (Some (record { lead = lead_part state; bit = bit_part state; value = value_part state })) None }
+{
+    (u64::from(state) < size).then(|| Fields {
+        lead: leads(state),
+        bit: bit_of(state),
+        value: value_of(state),
+    })
 }

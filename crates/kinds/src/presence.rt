@@ -1,30 +1,17 @@
 // Presence: does any tag have one of some symbols?
-ghost use Rattle.std.specs.Prelude.{◌≡◌, ℕ, ◌==◌};
 ghost use Rattle.protocol.specs.Presence.{presence};
 ghost use Rattle.protocol.proofs.Presence.{presence_lawful};
 
 use protocol::Advice;
 use question::Question;
-use question::digit::{Digit, Test};
+use question::digit::Digit;
 use question::states::bit_at;
-use reading::{SYMBOLS, Symbol};
+use reading::Symbol;
 
 // The symbols that are looked for: bit i of the mask for symbol i.
 #[derive(Clone, Copy, PartialEq, Eq, Debug)]
 pub struct Presence {
     pub mask: u8,
-}
-
-// The tags in this state.
-#[derive(Clone, Copy)]
-struct Holds(u32);
-
-impl Test for Holds {
-    ghost passes = { λ t _ state. (state == t.0) };
-
-    fn passes_at(&self, _place: usize, state: u32) -> bool {
-        state == self.0
-    }
 }
 
 impl Question for Presence {
@@ -41,9 +28,10 @@ impl Question for Presence {
     }
 
     fn start(&self, symbol: Symbol) -> u32 {
-        u32::from(
-            usize::from(symbol.0) < SYMBOLS && bit_at(u64::from(self.mask), u32::from(symbol.0)),
-        )
+        let sought = symbol
+            .index()
+            .is_some_and(|index| bit_at(u64::from(self.mask), index as u32));
+        u32::from(sought)
     }
 
     fn answer(&self, state: u32) -> bool {
@@ -69,10 +57,10 @@ impl Question for Presence {
         if words.is_empty() {
             return Advice::Lost;
         }
-        let Some(first) = digit.lowest(words, &Holds(1)) else {
+        let Some(first) = digit.lowest(words, |_, state| state == 1) else {
             return Advice::Settled;
         };
-        match digit.lowest(words, &Holds(0)) {
+        match digit.lowest(words, |_, state| state == 0) {
             Some(second) => Advice::Meet(first, second),
             None => Advice::Settled,
         }

@@ -1,3 +1,1 @@
-pub mod Calls
 pub mod Chains
-pub mod Each

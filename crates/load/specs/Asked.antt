@@ -3,7 +3,7 @@ use Rattle.std.specs.Prelude.{ℕ, suc, Bool, not, ◌&&◌, List, [], ◌∷◌
 use Rattle.reading.specs.declared.Symbol.{Symbol}
 use Rattle.refusal.specs.declared.Fault.{Fault}
 use Rattle.refusal.specs.declared.Refusal.TheVariants.{QuestionTooLarge, TagCount, LengthMismatch, UnknownSymbol, NoSuchPlace, SamePlace, UnknownState}
-use Rattle.refusal.specs.Checks.{Check, check}
+use Rattle.refusal.specs.Checks.{Check, check, verdict}
 use Rattle.protocol.specs.Places.{state_at}
 use Rattle.protocol.specs.Protocols.{Tables, start_reply}
 
@@ -37,6 +37,10 @@ module _ (t : Tables Bool) where
       ∷ as_many_words (length symbols) words
       ∷ each_from symbol_known 0 symbols
 
+  -- and its verdict
+  abbrev pub start_verdict : List Symbol → List ℕ → Check
+  start_verdict symbols words = verdict (start_checks symbols words)
+
   -- what open asks of a load with so many tags, of a first and a second place, and of the words
   abbrev pub open_checks : ℕ → ℕ → ℕ → List ℕ → List Check
   open_checks tags first second words =
@@ -48,6 +52,10 @@ module _ (t : Tables Bool) where
       ∷ word_known t.size second (state_at words second)
       ∷ []
 
+  -- and its verdict
+  abbrev pub open_verdict : ℕ → ℕ → ℕ → List ℕ → Check
+  open_verdict tags first second words = verdict (open_checks tags first second words)
+
   -- what finish asks: the words are lent anew, so it does not rest on what open was lent
   abbrev pub finish_checks : ℕ → ℕ → ℕ → List ℕ → List Check
   finish_checks tags first second words =
@@ -56,14 +64,26 @@ module _ (t : Tables Bool) where
       ∷ word_known t.size second (state_at words second)
       ∷ []
 
+  -- and its verdict
+  abbrev pub finish_verdict : ℕ → ℕ → ℕ → List ℕ → Check
+  finish_verdict tags first second words = verdict (finish_checks tags first second words)
+
   -- what advise asks
   abbrev pub advise_checks : ℕ → List ℕ → List Check
   advise_checks tags words = as_many_words tags words ∷ each_from (word_known t.size) 0 words
+
+  -- and its verdict
+  abbrev pub advise_verdict : ℕ → List ℕ → Check
+  advise_verdict tags words = verdict (advise_checks tags words)
 
   -- what read asks
   abbrev pub read_checks : ℕ → ℕ → List ℕ → List Check
   read_checks tags place words =
       as_many_words tags words ∷ place_within tags place ∷ word_known t.size place (state_at words place) ∷ []
+
+  -- and its verdict
+  abbrev pub read_verdict : ℕ → ℕ → List ℕ → Check
+  read_verdict tags place words = verdict (read_checks tags place words)
 
   -- the words with which a load starts
   abbrev pub start_words : List Symbol → List ℕ

@@ -3,11 +3,10 @@ use Rattle.std.specs.Prelude.{◌≡◌, ℕ, Bool, List, [], ◌∷◌, length,
 use Rattle.reading.specs.declared.Symbol.{Symbol}
 use Rattle.refusal.specs.declared.Fault.{Fault}
 use Rattle.refusal.specs.declared.Refusal.TheVariants.{LengthMismatch}
-use Rattle.refusal.specs.Checks.{verdict}
 use Rattle.protocol.specs.declared.Advice.{Advice}
 use Rattle.protocol.specs.Places.{meeting, state_at}
 use Rattle.protocol.specs.Protocols.{Protocol, answer_reply, meet_reply, advice_reply}
-use Rattle.load.specs.Asked.{start_checks, open_checks, finish_checks, advise_checks, read_checks, start_words}
+use Rattle.load.specs.Asked.{start_verdict, open_verdict, finish_verdict, advise_verdict, read_verdict, start_words}
 use Rattle.load.specs.Phases.{Phase, ready, opened}
 
 -- what is asked of a load
@@ -32,24 +31,24 @@ pub data Reply : Type 0 where
 -- one call: what is asked of a load in this phase, with these words lent, the reply, and the phase and the words after it.
 -- Where no line fits, as for an open while a meeting is open, there is no such call: a program that makes it is refused by the compiler
 pub data Call (p : Protocol Bool) : Request → Phase → List ℕ → Reply → Phase → List ℕ → Type 0 where
-  open_granted : {tags first second : ℕ} {words : List ℕ} → verdict (open_checks p.tables tags first second words) ≡ Ok tt
+  open_granted : {tags first second : ℕ} {words : List ℕ} → open_verdict p.tables tags first second words ≡ Ok tt
       → Call p (Open first second) (ready tags) words done (opened tags first second) words
-  open_refused : {tags first second : ℕ} {words : List ℕ} {f : Fault} → verdict (open_checks p.tables tags first second words) ≡ Err f
+  open_refused : {tags first second : ℕ} {words : List ℕ} {f : Fault} → open_verdict p.tables tags first second words ≡ Err f
       → Call p (Open first second) (ready tags) words (refused f) (ready tags) words
   -- only this call writes: the two met numbers, at the two places
-  finish_granted : {tags first second : ℕ} {words : List ℕ} → verdict (finish_checks p.tables tags first second words) ≡ Ok tt
+  finish_granted : {tags first second : ℕ} {words : List ℕ} → finish_verdict p.tables tags first second words ≡ Ok tt
       → Call p Finish (opened tags first second) words done (ready tags) (meeting (meet_reply p.tables) words first second)
-  finish_refused : {tags first second : ℕ} {words : List ℕ} {f : Fault} → verdict (finish_checks p.tables tags first second words) ≡ Err f
+  finish_refused : {tags first second : ℕ} {words : List ℕ} {f : Fault} → finish_verdict p.tables tags first second words ≡ Err f
       → Call p Finish (opened tags first second) words (refused f) (opened tags first second) words
   broken_off : {tags first second : ℕ} {words : List ℕ}
       → Call p BreakOff (opened tags first second) words done (ready tags) words
-  advise_granted : {tags : ℕ} {words : List ℕ} → verdict (advise_checks p.tables tags words) ≡ Ok tt
+  advise_granted : {tags : ℕ} {words : List ℕ} → advise_verdict p.tables tags words ≡ Ok tt
       → Call p Advise (ready tags) words (advised (advice_reply p words 1)) (ready tags) words
-  advise_refused : {tags : ℕ} {words : List ℕ} {f : Fault} → verdict (advise_checks p.tables tags words) ≡ Err f
+  advise_refused : {tags : ℕ} {words : List ℕ} {f : Fault} → advise_verdict p.tables tags words ≡ Err f
       → Call p Advise (ready tags) words (refused f) (ready tags) words
-  read_granted : {tags place : ℕ} {words : List ℕ} → verdict (read_checks p.tables tags place words) ≡ Ok tt
+  read_granted : {tags place : ℕ} {words : List ℕ} → read_verdict p.tables tags place words ≡ Ok tt
       → Call p (Read place) (ready tags) words (answered (answer_reply p.tables (state_at words place))) (ready tags) words
-  read_refused : {tags place : ℕ} {words : List ℕ} {f : Fault} → verdict (read_checks p.tables tags place words) ≡ Err f
+  read_refused : {tags place : ℕ} {words : List ℕ} {f : Fault} → read_verdict p.tables tags place words ≡ Err f
       → Call p (Read place) (ready tags) words (refused f) (ready tags) words
 
 -- a list of calls, with the phase and the words that it begins and ends with. Each takes the load as the one before left it
@@ -70,7 +69,7 @@ pub data Calls (p : Protocol Bool) : Phase → List ℕ → List (Request × Rep
 
 -- a granted start with these symbols: the ready load that it gives, and the words that it writes
 pub data Start (p : Protocol Bool) (symbols : List Symbol) : Phase → List ℕ → Type 0 where
-  started : (words : List ℕ) → verdict (start_checks p.tables symbols words) ≡ Ok tt
+  started : (words : List ℕ) → start_verdict p.tables symbols words ≡ Ok tt
       → Start p symbols (ready (length symbols)) (start_words p.tables symbols)
 
 -- the reply of a call that takes a load

@@ -5,8 +5,8 @@
 ghost use Rattle.std.specs.Prelude.{◌≡◌, ℕ, ◌<◌, Bool, false, List, length, IfOk, IfErr};
 ghost use Rattle.protocol.specs.Places.{state_at, meeting};
 ghost use Rattle.protocol.specs.Protocols.{Protocol, answer_reply, meet_reply, advice_reply};
-ghost use Rattle.refusal.specs.Checks.{verdict, leaves};
-ghost use Rattle.load.specs.Asked.{start_checks, open_checks, finish_checks, advise_checks, read_checks, start_words, granted, granted_or_back};
+ghost use Rattle.refusal.specs.Checks.{leaves};
+ghost use Rattle.load.specs.Asked.{start_verdict, open_verdict, finish_verdict, advise_verdict, read_verdict, start_words, granted, granted_or_back};
 ghost use Rattle.load.specs.Calls.{Call, Start, Open, Finish, BreakOff, Advise, Read, done, advised, answered, reply_of, phase_of, look_reply};
 ghost use Rattle.load.specs.Phases.{ready, opened, of_ready, of_meeting, outcome, started_as};
 
@@ -17,8 +17,8 @@ use refusal::Fault;
 
 mod asked;
 mod phases;
-mod words;
 
+use asked::Lent;
 pub use phases::{Meeting, Ready, Refused};
 
 impl Ready {
@@ -28,11 +28,14 @@ impl Ready {
         symbols: &[Symbol],
         words: &mut [u32],
     ) -> Result<Ready, Fault>
-        ensures result { started_as result ≡ granted (verdict (start_checks (Q.Question.meaning question.now).protocol.tables symbols.now words.old)) (ready (length symbols.now)) }
-        ensures written { words.new ≡ leaves (verdict (start_checks (Q.Question.meaning question.now).protocol.tables symbols.now words.old)) (start_words (Q.Question.meaning question.now).protocol.tables symbols.now) words.old }
-        ensures call { IfOk result (λ load. Start (Q.Question.meaning question.now).protocol symbols.now (of_ready load) words.new) }
+        ensures result { let tables = (Q.meaning question.now).protocol.tables in
+            started_as result ≡ granted (start_verdict tables symbols.now words.old) (ready (length symbols.now)) }
+        ensures written { let tables = (Q.meaning question.now).protocol.tables in
+            words.new ≡ leaves (start_verdict tables symbols.now words.old) (start_words tables symbols.now) words.old }
+        ensures call { IfOk result (λ load. Start (Q.meaning question.now).protocol symbols.now (of_ready load) words.new) }
     {
-        words::begin(question, symbols, words)?;
+        asked::check_start(question, symbols, words)?;
+        write_starts(question, symbols, words);
         Ok(Ready {
             tags: symbols.len(),
         })
@@ -46,6 +49,7 @@ impl Ready {
     }
 
     // Opens a meeting of the tags at two different places. Asks 10, 12, 13, 14.
+    // Two numbers, as a user names them: a struct of two places would be made and taken apart at each call.
     pub fn open<Q: Question>(
         self,
         question: &Q,
@@ -53,28 +57,33 @@ impl Ready {
         first: usize,
         second: usize,
     ) -> Result<Meeting, Refused<Ready>>
-        ensures result { outcome of_meeting of_ready result ≡ granted_or_back (verdict (open_checks (Q.Question.meaning question.now).protocol.tables self.tags first second words.now)) (opened self.tags first second) (of_ready self) }
+        ensures result { let tables = (Q.meaning question.now).protocol.tables in
+            outcome of_meeting of_ready result
+            ≡ granted_or_back (open_verdict tables self.tags first second words.now) (opened self.tags first second) (of_ready self) }
         ensures unspent { IfOk result (λ meeting. meeting.spent ≡ false) }
-        ensures call { Call (Q.Question.meaning question.now).protocol (Open first second) (of_ready self) words.now (reply_of (outcome of_meeting of_ready result)) (phase_of (outcome of_meeting of_ready result)) words.now }
+        ensures call { let came_to = outcome of_meeting of_ready result in
+            Call (Q.meaning question.now).protocol (Open first second) (of_ready self) words.now (reply_of came_to) (phase_of came_to) words.now }
     {
-        let tags = self.tags;
-        match asked::of_open(tags, question, words, first, second) {
-            Ok(()) => Ok(Meeting {
-                tags,
-                first,
-                second,
-                spent: false,
-            }),
-            Err(fault) => Err(Refused { fault, kept: self }),
+        let lent = Lent::new(self.tags, question, words);
+        // Not by `map_err`, whose closure would take `self`.
+        if let Err(fault) = lent.check_open(first, second) {
+            return Err(Refused { fault, kept: self });
         }
+        Ok(Meeting {
+            tags: self.tags,
+            first,
+            second,
+            spent: false,
+        })
     }
 
     // Which two tags should meet next. Asks 10, and 14 of all words.
     pub fn advise<Q: Question>(&self, question: &Q, words: &[u32]) -> Result<Advice, Fault>
-        ensures result { result ≡ granted (verdict (advise_checks (Q.Question.meaning question.now).protocol.tables self.now.tags words.now)) (advice_reply (Q.Question.meaning question.now).protocol words.now 1) }
-        ensures call { Call (Q.Question.meaning question.now).protocol Advise (of_ready self.now) words.now (look_reply advised result) (of_ready self.now) words.now }
+        ensures result { let p = (Q.meaning question.now).protocol in
+            result ≡ granted (advise_verdict p.tables self.now.tags words.now) (advice_reply p words.now 1) }
+        ensures call { Call (Q.meaning question.now).protocol Advise (of_ready self.now) words.now (look_reply advised result) (of_ready self.now) words.now }
     {
-        asked::of_advise(self.tags, question, words)?;
+        Lent::new(self.tags, question, words).check_advise()?;
         Ok(question.advice(words, 1))
     }
 
@@ -85,11 +94,12 @@ impl Ready {
         words: &[u32],
         place: usize,
     ) -> Result<bool, Fault>
-        ensures result { result ≡ granted (verdict (read_checks (Q.Question.meaning question.now).protocol.tables self.now.tags place words.now)) (answer_reply (Q.Question.meaning question.now).protocol.tables (state_at words.now place)) }
-        ensures call { Call (Q.Question.meaning question.now).protocol (Read place) (of_ready self.now) words.now (look_reply answered result) (of_ready self.now) words.now }
+        ensures result { let tables = (Q.meaning question.now).protocol.tables in
+            result ≡ granted (read_verdict tables self.now.tags place words.now) (answer_reply tables (state_at words.now place)) }
+        ensures call { Call (Q.meaning question.now).protocol (Read place) (of_ready self.now) words.now (look_reply answered result) (of_ready self.now) words.now }
     {
-        asked::of_read(self.tags, question, words, place)?;
-        Ok(words::answer_at(question, words, place))
+        Lent::new(self.tags, question, words).check_read(place)?;
+        Ok(question.answer(words[place]))
     }
 }
 
@@ -100,18 +110,23 @@ impl Meeting {
         question: &Q,
         words: &mut [u32],
     ) -> Result<Ready, Refused<Meeting>>
-        ensures result { outcome of_ready of_meeting result ≡ granted_or_back (verdict (finish_checks (Q.Question.meaning question.now).protocol.tables self.tags self.first self.second words.old)) (ready self.tags) (of_meeting self) }
-        ensures written { words.new ≡ leaves (verdict (finish_checks (Q.Question.meaning question.now).protocol.tables self.tags self.first self.second words.old)) (meeting (meet_reply (Q.Question.meaning question.now).protocol.tables) words.old self.first self.second) words.old }
+        ensures result { let tables = (Q.meaning question.now).protocol.tables in
+            outcome of_ready of_meeting result
+            ≡ granted_or_back (finish_verdict tables self.tags self.first self.second words.old) (ready self.tags) (of_meeting self) }
+        ensures written { let tables = (Q.meaning question.now).protocol.tables in
+            words.new
+            ≡ leaves (finish_verdict tables self.tags self.first self.second words.old) (meeting (meet_reply tables) words.old self.first self.second) words.old }
         ensures unspent { IfErr result (λ refused. refused.kept.spent ≡ self.spent) }
-        ensures call { Call (Q.Question.meaning question.now).protocol Finish (of_meeting self) words.old (reply_of (outcome of_ready of_meeting result)) (phase_of (outcome of_ready of_meeting result)) words.new }
+        ensures call { let came_to = outcome of_ready of_meeting result in
+            Call (Q.meaning question.now).protocol Finish (of_meeting self) words.old (reply_of came_to) (phase_of came_to) words.new }
     {
-        match asked::of_finish(self.tags, question, words, self.first, self.second) {
-            Ok(()) => {
-                words::write_met(question, words, self.first, self.second);
-                Ok(self.spend())
-            }
-            Err(fault) => Err(Refused { fault, kept: self }),
+        let lent = Lent::new(self.tags, question, words);
+        // Not by `map_err`, as in `open`.
+        if let Err(fault) = lent.check_finish(self.first, self.second) {
+            return Err(Refused { fault, kept: self });
         }
+        write_met(question, words, self.first, self.second);
+        Ok(self.spend())
     }
 
     // Gives the meeting up; the load is ready again. Never refused. No word is lent, so none is written.
@@ -121,4 +136,26 @@ impl Meeting {
     {
         self.spend()
     }
+}
+
+// Writes the words with which a load starts.
+fn write_starts<Q: Question>(question: &Q, symbols: &[Symbol], words: &mut [u32])
+    requires { length words.old ≡ length symbols.now }
+    ensures { words.new ≡ start_words (Q.meaning question.now).protocol.tables symbols.now }
+{
+    // By place: after a `zip` with `iter_mut` the check would know none of the words.
+    for (place, word) in words.iter_mut().enumerate() {
+        *word = question.start(symbols[place]);
+    }
+}
+
+// Writes the states that the tags at the two places leave their meeting with.
+fn write_met<Q: Question>(question: &Q, words: &mut [u32], first: usize, second: usize)
+    requires first_within { first < length words.old }
+    requires second_within { second < length words.old }
+    ensures { words.new ≡ meeting (meet_reply (Q.meaning question.now).protocol.tables) words.old first second }
+{
+    let (a, b) = question.meet(words[first], words[second]);
+    words[first] = a;
+    words[second] = b;
 }

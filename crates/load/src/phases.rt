@@ -16,7 +16,7 @@ pub struct Meeting {
     pub(crate) tags: usize,
     pub(crate) first: usize,
     pub(crate) second: usize,
-    // Whether the load has gone on without it: so only on the way from `spend` to `drop`.
+    // Whether the load has gone on without it: so only on the way from `spend` to `drop`. A flag, since the prover has to see it where one falls.
     pub(crate) spent: bool,
     ghost few: { tags ≤ 1024 },
     ghost first_within: { first < tags },
@@ -26,12 +26,11 @@ pub struct Meeting {
 
 impl Meeting {
     // Spends the meeting: the load is ready again.
-    pub(crate) fn spend(self) -> Ready
+    pub(crate) fn spend(mut self) -> Ready
         ensures { result.tags ≡ self.tags }
     {
-        let mut meeting = self;
-        meeting.spent = true;
-        Ready { tags: meeting.tags }
+        self.spent = true;
+        Ready { tags: self.tags }
     }
 }
 
@@ -40,6 +39,7 @@ impl Drop for Meeting {
     fn drop(self)
         requires { self.spent ≡ true }
     {
+        // By each field: under `..` it would be let go whole, and so dropped again.
         let Meeting {
             tags: _,
             first: _,

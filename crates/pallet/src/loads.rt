@@ -1,26 +1,29 @@
 // Loads of the readings: one that follows the advice meeting by meeting, and one that is asked in one call.
-use anyhow::anyhow;
+use anyhow::bail;
 use compiled::{Compiled, Lane};
 use kinds::{Presence, Threshold};
-use load::{Meeting, Ready};
+use load::{Meeting, Ready, Refused};
 use protocol::Advice;
 use question::Question;
 use reading::Symbol;
 use refusal::Fault;
 use settling::ask;
 
-// Asks two questions of a load with these readings: the one meeting by meeting, the other in one call.
-pub(crate) fn show_some(rt: &HostRuntime, readings: &[Symbol]) -> anyhow::Result<()> {
-    let mut words = vec![in rt.alloc(); 0; readings.len()]?;
-    follow(rt, "3a < 7", &few()?, readings, words.as_mut_slice())?;
-    answer(
+// Asks two questions of loads with these readings: the one meeting by meeting, the other in one call.
+pub(crate) fn show_some(
+    rt: &(impl Print + AllocGlobal),
+    readings: &[Symbol],
+) -> anyhow::Result<()> {
+    let mut pallet = Pallet {
         rt,
-        "any a and not any b",
-        &only()?,
         readings,
-        words.as_mut_slice(),
-    )
+        words: vec![in rt.alloc(); 0; readings.len()]?,
+    };
+    pallet.follow("3a < 7", &few()?)?;
+    pallet.answer("any a and not any b", &only()?)
 }
+
+// `reader` makes the same two: a crate for them would be longer than they are.
 
 // 3a < 7
 fn few() -> Result<Threshold, Fault> {
@@ -36,64 +39,76 @@ fn only() -> Result<Compiled, Fault> {
     Compiled::new(&lanes, 2)
 }
 
-// Starts a load and follows the advice to its end.
-fn follow<Q: Question>(
-    rt: &HostRuntime,
-    name: &str,
-    question: &Q,
-    readings: &[Symbol],
-    words: &mut [u32],
-) -> anyhow::Result<()> {
-    println!(rt; "{name}, meeting by meeting:")?;
-    match Ready::start(question, readings, words) {
-        Ok(load) => follow_advice(rt, load, question, words),
-        Err(fault) => {
-            println!(rt; "  {fault}")?;
-            Ok(())
+// The tags on a pallet: their readings, their words, and the runtime that prints what they do.
+#[derive(Drop)]
+struct Pallet<'a, R> {
+    rt: &'a R,
+    readings: &'a [Symbol],
+    words: Vec<u32>,
+}
+
+impl<R: Print> Pallet<'_, R> {
+    // Starts a load and follows the advice to its end.
+    fn follow<Q: Question>(&mut self, name: &str, question: &Q) -> anyhow::Result<()> {
+        println!(self.rt; "{name}, meeting by meeting:")?;
+        match Ready::start(question, self.readings, &mut self.words) {
+            Ok(load) => self.follow_advice(load, question),
+            Err(fault) => Ok(println!(self.rt; "  {fault}")?),
         }
+    }
+
+    // A line for each meeting, and one for the answer.
+    fn follow_advice<Q: Question>(&mut self, mut load: Ready, question: &Q) -> anyhow::Result<()> {
+        // The promise: within weight × (tags - 1) meetings the advice settles the load.
+        let most = question.weight().saturating_mul(load.tags() as u64 - 1);
+        // The count is printed.
+        for meetings in 0..=most {
+            match load.advise(question, &self.words)? {
+                Advice::Meet(first, second) => {
+                    load = self.show_meeting(load, question, first, second)?;
+                }
+                Advice::Settled => {
+                    let answer = yes_or_no(load.read(question, &self.words, 0)?);
+                    println!(self.rt; "  settled after {meetings} meetings: {answer}")?;
+                    return Ok(());
+                }
+                Advice::Lost => bail!("the load is lost"),
+            }
+        }
+        bail!("the load is not settled")
+    }
+
+    // One meeting, opened and finished, and its line.
+    fn show_meeting<Q: Question>(
+        &mut self,
+        load: Ready,
+        question: &Q,
+        first: usize,
+        second: usize,
+    ) -> anyhow::Result<Ready> {
+        let (a, b) = (self.word(first), self.word(second));
+        let load = meet(load, question, &mut self.words, first, second)?;
+        let (c, d) = (self.word(first), self.word(second));
+        println!(self.rt; "  {first} meets {second}: {a} {b} become {c} {d}")?;
+        Ok(load)
+    }
+
+    // The word at a place that the advice names. 0 at any other: an error would be a branch that no load comes to.
+    fn word(&self, place: usize) -> u32 {
+        self.words.get(place).copied().unwrap_or(0)
+    }
+
+    // Starts a load, settles it and reads the answer in one call.
+    fn answer<Q: Question>(&mut self, name: &str, question: &Q) -> anyhow::Result<()> {
+        match ask(question, self.readings, &mut self.words) {
+            Ok(answer) => println!(self.rt; "{name}: {}", yes_or_no(answer))?,
+            Err(fault) => println!(self.rt; "{name}: {fault}")?,
+        }
+        Ok(())
     }
 }
 
-// A line for each meeting, and one for the answer.
-fn follow_advice<Q: Question>(
-    rt: &HostRuntime,
-    load: Ready,
-    question: &Q,
-    words: &mut [u32],
-) -> anyhow::Result<()> {
-    let mut load = load;
-    // The advice settles the load long before: the bound is what shows that the loop ends.
-    for meetings in 0..u64::MAX {
-        match load.advise(question, words)? {
-            Advice::Meet(first, second) => {
-                load = show_meeting(rt, load, question, words, first, second)?;
-            }
-            Advice::Settled => {
-                let answer = word(load.read(question, words, 0)?);
-                println!(rt; "  settled after {meetings} meetings: {answer}")?;
-                return Ok(());
-            }
-            Advice::Lost => return Err(anyhow!("the load is lost")),
-        }
-    }
-    Ok(())
-}
-
-fn show_meeting<Q: Question>(
-    rt: &HostRuntime,
-    load: Ready,
-    question: &Q,
-    words: &mut [u32],
-    first: usize,
-    second: usize,
-) -> anyhow::Result<Ready> {
-    let (a, b) = (at(words, first), at(words, second));
-    let load = meet(load, question, words, first, second)?;
-    let (c, d) = (at(words, first), at(words, second));
-    println!(rt; "  {first} meets {second}: {a} {b} become {c} {d}")?;
-    Ok(load)
-}
-
+// Unlike `settle`, which gives the load back, it answers the fault alone.
 fn meet<Q: Question>(
     load: Ready,
     question: &Q,
@@ -102,42 +117,16 @@ fn meet<Q: Question>(
     second: usize,
 ) -> Result<Ready, Fault> {
     let meeting = load.open(question, words, first, second)?;
-    finish(meeting, question, words)
+    meeting.finish(question, words).map_err(broken_off)
 }
 
-// Finishes a meeting, or breaks it off where that is refused: no program may let it fall.
-fn finish<Q: Question>(meeting: Meeting, question: &Q, words: &mut [u32]) -> Result<Ready, Fault> {
-    match meeting.finish(question, words) {
-        Ok(load) => Ok(load),
-        Err(refused) => {
-            let _load = refused.kept.break_off();
-            Err(refused.fault)
-        }
-    }
+// Breaks off a meeting that could not be finished: no program may let it fall.
+fn broken_off(refused: Refused<Meeting>) -> Fault {
+    let _load = refused.kept.break_off();
+    refused.fault
 }
 
-fn at(words: &[u32], place: usize) -> u32 {
-    words.get(place).copied().unwrap_or(0)
-}
-
-// Starts a load, settles it and reads the answer in one call.
-fn answer<Q: Question>(
-    rt: &HostRuntime,
-    name: &str,
-    question: &Q,
-    readings: &[Symbol],
-    words: &mut [u32],
-) -> anyhow::Result<()> {
-    match ask(question, readings, words) {
-        Ok(answer) => {
-            let answer = word(answer);
-            println!(rt; "{name}: {answer}")?;
-        }
-        Err(fault) => println!(rt; "{name}: {fault}")?,
-    }
-    Ok(())
-}
-
-fn word(answer: bool) -> &'static str {
+// A function: a type with a `Display` for two words would be longer.
+fn yes_or_no(answer: bool) -> &'static str {
     if answer { "yes" } else { "no" }
 }

@@ -10,7 +10,7 @@ fn main(rt: HostRuntime) -> anyhow::Result<()> {
     run(&rt)
 }
 
-fn run(rt: &HostRuntime) -> anyhow::Result<()> {
+fn run(rt: &(impl Print + AllocGlobal)) -> anyhow::Result<()> {
     let mut readings = [Symbol(0); 5];
     classify(&[12, 39, 40, 255, 7], &mut readings)?;
     loads::show_some(rt, &readings)

@@ -1,7 +1,7 @@
 // Probe bytes: what a probe measured, and the symbol that it is classed as.
 #![tactic(auto)]
 
-ghost use Rattle.std.specs.Prelude.{◌≡◌, ◌<◌, true, map, length, slice_index, slice_set};
+ghost use Rattle.std.specs.Prelude.{◌≡◌, IsTrue, map};
 ghost use Rattle.probe.specs.Classes.{class_of, symbol_of, keeps_rule};
 ghost use Rattle.probe.specs.Classing.{checks};
 ghost use Rattle.refusal.specs.Checks.{verdict, leaves};
@@ -20,7 +20,7 @@ pub fn class(byte: u8) -> Symbol
 
 // What a table that keeps the rule has for a byte.
 fn entry(table: &[u8; 256], byte: u8) -> u8
-    requires { keeps_rule table.now ≡ true }
+    requires { IsTrue (keeps_rule table.now) }
     ensures { result ≡ class_of byte }
 {
     table[usize::from(byte)]
@@ -32,25 +32,11 @@ pub fn classify(bytes: &[u8], symbols: &mut [Symbol]) -> Result<(), Fault>
     ensures written { symbols.new ≡ leaves (verdict (checks bytes.now symbols.old)) (map symbol_of bytes.now) symbols.old }
 {
     Refusal::LengthMismatch.unless(bytes.len() == symbols.len(), 0)?;
-    class_all(bytes, symbols);
-    Ok(())
-}
-
-fn class_all(bytes: &[u8], symbols: &mut [Symbol])
-    requires { length bytes.now ≡ length symbols.old }
-    ensures { symbols.new ≡ map symbol_of bytes.now }
-{
-    for i in 0..bytes.len() {
-        class_at(bytes, i, symbols);
+    // By place: of what a `zip` with `iter_mut` has written, a proof knows the length alone.
+    for (place, byte) in bytes.iter().enumerate() {
+        symbols[place] = class(*byte);
     }
-}
-
-fn class_at(bytes: &[u8], i: usize, symbols: &mut [Symbol])
-    requires byte { i < length bytes.now }
-    requires symbol { i < length symbols.old }
-    ensures { symbols.new ≡ slice_set symbols.old i (symbol_of (slice_index bytes.now i)) }
-{
-    symbols[i] = class(bytes[i]);
+    Ok(())
 }
 
 #[cfg(test)]

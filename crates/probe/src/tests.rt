@@ -29,18 +29,13 @@ fn each_byte_is_classed_at_its_place(rt: HostRuntime) {
 #[test]
 fn unequal_lengths_are_refused_and_nothing_is_written(rt: HostRuntime) {
     let mut symbols = [Symbol(9); 2];
-    assert_eq!(rt;
-        classify(&[1, 2, 3], &mut symbols),
-        Err(Refusal::LengthMismatch.at(0))
-    );
-    assert_eq!(rt;
-        classify(&[1], &mut symbols),
-        Err(Refusal::LengthMismatch.at(0))
-    );
-    assert_eq!(rt;
-        classify(&[], &mut symbols),
-        Err(Refusal::LengthMismatch.at(0))
-    );
+    let rows: [&[u8]; 3] = [&[1, 2, 3], &[1], &[]];
+    for bytes in rows {
+        assert_eq!(rt;
+            classify(bytes, &mut symbols),
+            Err(Refusal::LengthMismatch.at(0))
+        );
+    }
     assert_eq!(rt; symbols, [Symbol(9), Symbol(9)]);
 }
 

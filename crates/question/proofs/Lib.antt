@@ -1,3 +1,4 @@
 pub mod Units
 pub mod Halves
 pub mod Replies
+pub mod Tested

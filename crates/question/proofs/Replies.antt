@@ -1,20 +1,21 @@
 -- The replies of two questions in one number, by the replies of each. Assumes nothing.
-use Rattle.std.proofs.Common.{◌≡◌, ℕ, ◌*◌, ◌/◌, ◌%◌, ◌^◌, ◌<◌, ◌≤◌, Bool, true, false, ◌&&◌, eqb, ltb, List, [], ◌∷◌, map, length, Some, None, Option, unwrap_or, sym, refl, ap, ◌∙◌, subst, ⊎_elim, mod-lt, mul_assoc, mul_comm, mul-le-mul_left, zero-mul, le-mul_of_pos_right, arith}
+use Rattle.std.proofs.Common.{◌≡◌, ℕ, ◌*◌, ◌/◌, ◌%◌, ◌^◌, ◌<◌, ◌≤◌, Bool, true, false, cond, eqb, ltb, List, [], ◌∷◌, map, length, Some, unwrap_or, sym, refl, ap, ◌∙◌, subst, mod-lt, mul_assoc, mul_comm, mul-le-mul_left, zero-mul, le-mul_of_pos_right, arith}
 use native.Mathlib.Nat.{div-div-eq-div-mul}
 use lib.Arith.{digits_div, digits_mod, mod-mul}
 use lib.ListN.{length-map}
-use Rattle.std.proofs.lemmas.Bool.{cond-true, cond-false, and_from, lt-ltb, le-leb, ltb-true, cases_Bool, eqb-false, and_left, and_right, cond_both}
-use mir.Val.{bool_byte}
+use Rattle.std.proofs.lemmas.Bool.{cond-true, and_from, lt-ltb, le-leb, ltb-true, and_parts, eqb-false}
+use Rattle.std.proofs.lemmas.Bool.Decides.{nat_tests}
+use Rattle.std.proofs.lemmas.Option.{cond_some}
 use Rattle.protocol.specs.declared.Advice.{Advice}
-use Rattle.protocol.specs.declared.Advice.TheVariants.{Meet, Settled, Lost}
+use Rattle.protocol.specs.declared.Advice.TheVariants.{Lost}
 use Rattle.protocol.specs.Protocols.{Protocol, Tables, start_reply, answer_reply, meet_reply, advice_reply, state_read, allowed_unit}
-use Rattle.protocol.specs.Joining.{one_if, answered, pair, bounded, joined, left_of, right_of, unless_settled}
+use Rattle.protocol.specs.Joining.{answered, pair, bounded, left_of, right_of, unless_settled}
 use Rattle.protocol.specs.Laws.{Lawful, Settles, done, step, LawfulOnWords}
 use Rattle.protocol.specs.Places.{Advised}
 use Rattle.protocol.proofs.Places.{reached_length}
-use Rattle.protocol.proofs.Joining.{bounded_is, factors}
-use Rattle.question.specs.Halves.{halves_reply, number_reply}
-use Rattle.question.proofs.Halves.{halves_facts, number_is, some_parts}
+use Rattle.protocol.proofs.Joining.{bounded_is, factors, pairs}
+use Rattle.question.specs.Halves.{halves_reply, number_reply, meet_of_halves, advice_of_halves}
+use Rattle.question.proofs.Halves.{halves_facts, number_is}
 use Rattle.question.proofs.Units.{allowed_facts}
 
 map_maps : (g f h : ℕ → ℕ) → ((x : ℕ) → g (f x) ≡ h x) → (xs : List ℕ) → map g (map f xs) ≡ map h xs
@@ -59,34 +60,34 @@ half_units unit lefts rights e =
     positive : (a b : ℕ) → 0 < a → 0 < b → 0 < a * b
     positive a b ha hb = omega (arith, grows a b ha)
 
+-- two choices by one test, of which only what is taken at yes differs
+same_test : {A : Type 0} (b : Bool) (x y z : A) → (b ≡ true → x ≡ y) → cond b x z ≡ cond b y z
+same_test true x y z h = h refl
+same_test false x y z h = refl
+
+-- the advice on two questions in one number, by the advice on each
 pub advice_joined : {A B : Type 0} (l : Protocol A) (r : Protocol B) (words : List ℕ) (unit : ℕ)
-    → ltb 0 (length words) ≡ true → allowed_unit unit (pair l r).tables.size ≡ true
-    → advice_reply (pair l r) words unit ≡ unless_settled (advice_reply l words (unit * r.tables.size)) (advice_reply r words unit)
-advice_joined l r words unit some e =
-    let it = half_units unit l.tables.size r.tables.size e in
+    → advice_of_halves l.tables.size r.tables.size (advice_reply l words) (advice_reply r words) words unit ≡ advice_reply (pair l r) words unit
+advice_joined l r words unit =
+    same_test _ _ _ Lost
+    (λ asked.
+    let two = and_parts (ltb 0 (length words)) (allowed_unit unit (pair l r).tables.size) asked in
+    let it = half_units unit l.tables.size r.tables.size two.1 in
     let lefts = map_maps (left_of r.tables.size) (state_read unit (pair l r).tables.size) (state_read (unit * r.tables.size) l.tables.size)
     (λ w. ap (λ n. left_of r.tables.size (state_read unit n w)) it.0 ∙ left_digit unit _ _ w it.1 it.2) words in
     let rights = map_maps (right_of r.tables.size) (state_read unit (pair l r).tables.size) (state_read unit r.tables.size)
     (λ w. ap (λ n. right_of r.tables.size (state_read unit n w)) it.0 ∙ right_digit unit _ _ w it.1 it.2) words in
-    cond-true _ _ _ (and_from _ _ some e)
-    ∙ ap (λ qs. unless_settled (l.next qs) (r.next (map (right_of r.tables.size) (map (state_read unit (pair l r).tables.size) words)))) lefts
-    ∙ ap (λ qs. unless_settled (l.next (map (state_read (unit * r.tables.size) l.tables.size) words)) (r.next qs)) rights
-    ∙ ap (λ a. unless_settled a (r.next (map (state_read unit r.tables.size) words))) (sym (cond-true _ _ _ (and_from _ _ some it.3)))
-    ∙ ap (λ a. unless_settled (advice_reply l words (unit * r.tables.size)) a) (sym (cond-true _ _ _ (and_from _ _ some it.4)))
+    ap (λ a. unless_settled a (advice_reply r words unit)) (cond-true _ _ _ (and_from _ _ two.0 it.3))
+    ∙ ap (unless_settled (l.next (map (state_read (unit * r.tables.size) l.tables.size) words))) (cond-true _ _ _ (and_from _ _ two.0 it.4))
+    ∙ ap (λ qs. unless_settled (l.next qs) (r.next (map (state_read unit r.tables.size) words))) (sym lefts)
+    ∙ ap (λ qs. unless_settled (l.next (map (left_of r.tables.size) (map (state_read unit (pair l r).tables.size) words))) (r.next qs)) (sym rights))
 
 -- what the halves of a number are
 pub halves_some : (lefts rights state x y : ℕ) → halves_reply lefts rights state ≡ Some (x, y)
     → (state < bounded (lefts * rights)) × (x ≡ state / rights) × (y ≡ state % rights)
 halves_some lefts rights state x y e =
-    ⊎_elim
-    (λ known.
-    let value : ◌≡◌ {A = Option (ℕ × ℕ)} (Some (left_of rights state, right_of rights state)) (Some (x, y)) = sym (cond-true _ _ None known) ∙ e in
-    let parts = some_parts value in
-    (ltb-true state (bounded (lefts * rights)) known, sym parts.0, sym parts.1))
-    (λ unknown.
-    let value : ◌≡◌ {A = Option (ℕ × ℕ)} None (Some (x, y)) = sym (cond-false _ _ None unknown) ∙ e in
-    let z : ◌≡◌ {A = ℕ} 0 1 = cc in absurd (omega arith))
-    (cases_Bool (ltb state (bounded (lefts * rights))))
+    let it = cond_some (ltb state (bounded (lefts * rights))) (left_of rights state, right_of rights state) (x, y) e in
+    (ltb-true state (bounded (lefts * rights)) it.0, sym (ap (λ p. p.0) it.1), sym (ap (λ p. p.1) it.1))
 
 pub answer_joined : (f : Bool × Bool → Bool) (l r : Protocol Bool) (state x y : ℕ)
     → halves_reply l.tables.size r.tables.size state ≡ Some (x, y)
@@ -94,56 +95,34 @@ pub answer_joined : (f : Bool × Bool → Bool) (l r : Protocol Bool) (state x y
 answer_joined f l r state x y e =
     let it = halves_some l.tables.size r.tables.size state x y e in
     let facts = halves_facts l.tables.size r.tables.size state it.0 in
-    let left : answer_reply l.tables x ≡ l.tables.answer (left_of r.tables.size state) =
-    ap (answer_reply l.tables) it.1 ∙ cond-true _ _ false (lt-ltb (state / r.tables.size) l.tables.size facts.2) in
-    let right : answer_reply r.tables y ≡ r.tables.answer (right_of r.tables.size state) =
-    ap (answer_reply r.tables) it.2 ∙ cond-true _ _ false (lt-ltb (state % r.tables.size) r.tables.size facts.3) in
-    cond-true _ _ false (lt-ltb state (pair l r).tables.size it.0)
-    ∙ ap (λ a. f (a, r.tables.answer (right_of r.tables.size state))) (sym left)
-    ∙ ap (λ a. f (answer_reply l.tables x, a)) (sym right)
+    grind (arith, nat_tests)
 
 -- known numbers meet by the table
 pub meet_known_is : {A : Type 0} (t : Tables A) (a b : ℕ) → a < t.size → b < t.size → meet_reply t a b ≡ t.meet a b
 meet_known_is t a b ha hb = cond-true _ _ (a, b) (and_from _ _ (lt-ltb a t.size ha) (lt-ltb b t.size hb))
 
-pub meet_joined : {A B : Type 0} (l : Protocol A) (r : Protocol B) → Lawful l → Lawful r → (first second a b c d : ℕ)
-    → halves_reply l.tables.size r.tables.size first ≡ Some (a, b)
-    → halves_reply l.tables.size r.tables.size second ≡ Some (c, d)
-    → (unwrap_or (number_reply l.tables.size r.tables.size (meet_reply l.tables a c).0 (meet_reply r.tables b d).0) first
-    ≡ (meet_reply (pair l r).tables first second).0)
-    × (unwrap_or (number_reply l.tables.size r.tables.size (meet_reply l.tables a c).1 (meet_reply r.tables b d).1) second
-    ≡ (meet_reply (pair l r).tables first second).1)
-meet_joined l r ll lr first second a b c d e f =
+-- a meeting of two questions in one number, by the meetings of each
+pub meet_joined : {A B : Type 0} (l : Protocol A) (r : Protocol B) → Lawful l → Lawful r → (first second : ℕ)
+    → meet_of_halves l.tables.size r.tables.size (meet_reply l.tables) (meet_reply r.tables) first second ≡ meet_reply (pair l r).tables first second
+meet_joined l r ll lr first second =
+    same_test _ _ _ (first, second)
+    (λ known.
     let lefts = l.tables.size in
     let rights = r.tables.size in
-    let one = halves_some lefts rights first a b e in
-    let two = halves_some lefts rights second c d f in
-    let fs = halves_facts lefts rights first one.0 in
-    let gs = halves_facts lefts rights second two.0 in
-    let all = meet_known_is (pair l r).tables first second one.0 two.0 in
-    let left : meet_reply l.tables a c ≡ l.tables.meet (left_of rights first) (left_of rights second) =
-    ap (λ x. meet_reply l.tables x c) one.1 ∙ ap (meet_reply l.tables (left_of rights first)) two.1
-    ∙ meet_known_is l.tables _ _ fs.2 gs.2 in
-    let right : meet_reply r.tables b d ≡ r.tables.meet (right_of rights first) (right_of rights second) =
-    ap (λ x. meet_reply r.tables x d) one.2 ∙ ap (meet_reply r.tables (right_of rights first)) two.2
-    ∙ meet_known_is r.tables _ _ fs.3 gs.3 in
+    let two = and_parts (ltb first (pair l r).tables.size) (ltb second (pair l r).tables.size) known in
+    let fs = halves_facts lefts rights first (ltb-true first _ two.0) in
+    let gs = halves_facts lefts rights second (ltb-true second _ two.1) in
+    let left = meet_known_is l.tables _ _ fs.2 gs.2 in
+    let right = meet_known_is r.tables _ _ fs.3 gs.3 in
     let lk = ll.meet_known _ _ fs.2 gs.2 in
-    let rk = lr.meet_known _ _ fs.3 gs.3 in (
-      ap (λ x. unwrap_or (number_reply lefts rights x.0 (meet_reply r.tables b d).0) first) left
-          ∙ ap (λ x. unwrap_or (number_reply lefts rights (l.tables.meet (left_of rights first) (left_of rights second)).0 x.0) first) right
-          ∙ ap (λ o. unwrap_or o first) (number_is lefts rights _ _ fs.5 lk.0 rk.0)
-          ∙ sym (ap (λ x. x.0) all),
-      ap (λ x. unwrap_or (number_reply lefts rights x.1 (meet_reply r.tables b d).1) second) left
-          ∙ ap (λ x. unwrap_or (number_reply lefts rights (l.tables.meet (left_of rights first) (left_of rights second)).1 x.1) second) right
-          ∙ ap (λ o. unwrap_or o second) (number_is lefts rights _ _ fs.5 lk.1 rk.1)
-          ∙ sym (ap (λ x. x.1) all),
-    )
-
--- advice that is not Settled stands
-pub unsettled : (a b : Advice) → (a ≡ Settled → ⊥) → unless_settled a b ≡ a
-unsettled (Meet i j) b h = refl
-unsettled Settled b h = absurd (h refl)
-unsettled Lost b h = refl
+    let rk = lr.meet_known _ _ fs.3 gs.3 in
+    pairs
+    (ap (λ x. unwrap_or (number_reply lefts rights x.0 (meet_reply r.tables (right_of rights first) (right_of rights second)).0) first) left
+    ∙ ap (λ x. unwrap_or (number_reply lefts rights (l.tables.meet (left_of rights first) (left_of rights second)).0 x.0) first) right
+    ∙ ap (λ o. unwrap_or o first) (number_is lefts rights _ _ fs.5 lk.0 rk.0))
+    (ap (λ x. unwrap_or (number_reply lefts rights x.1 (meet_reply r.tables (right_of rights first) (right_of rights second)).1) second) left
+    ∙ ap (λ x. unwrap_or (number_reply lefts rights (l.tables.meet (left_of rights first) (left_of rights second)).1 x.1) second) right
+    ∙ ap (λ o. unwrap_or o second) (number_is lefts rights _ _ fs.5 lk.1 rk.1)))
 
 -- words that are not empty
 pub nonempty : (words : List ℕ) → false ≡ eqb (length words) 0 → ltb 0 (length words) ≡ true
@@ -157,67 +136,14 @@ advice_read p words unit size u s e ok f g some =
     ∙ ap (λ n. p.next (map (state_read unit n) words)) (sym e ∙ sym g)
     ∙ ap (λ n. p.next (map (state_read n s) words)) (sym f)
 
--- a number without halves is unknown, and does not meet
-pub halves_none : (lefts rights state : ℕ) → halves_reply lefts rights state ≡ None → ltb state (bounded (lefts * rights)) ≡ false
-halves_none lefts rights state e =
-    ⊎_elim
-    (λ known.
-    let value : ◌≡◌ {A = Option (ℕ × ℕ)} (Some (left_of rights state, right_of rights state)) None = sym (cond-true _ _ None known) ∙ e in
-    let z : ◌≡◌ {A = ℕ} 0 1 = cc in absurd (omega arith))
-    (λ unknown. unknown)
-    (cases_Bool (ltb state (bounded (lefts * rights))))
-
-pub first_unknown : {A B : Type 0} (l : Protocol A) (r : Protocol B) (first second : ℕ)
-    → halves_reply l.tables.size r.tables.size first ≡ None → meet_reply (pair l r).tables first second ≡ (first, second)
-first_unknown l r first second e =
-    cond-false _ _ (first, second) (and_left _ _ (halves_none l.tables.size r.tables.size first e))
-
-pub second_unknown : {A B : Type 0} (l : Protocol A) (r : Protocol B) (first second : ℕ)
-    → halves_reply l.tables.size r.tables.size second ≡ None → meet_reply (pair l r).tables first second ≡ (first, second)
-second_unknown l r first second e =
-    cond-false _ _ (first, second) (and_right (ltb first (pair l r).tables.size) _ (halves_none l.tables.size r.tables.size second e))
-
 -- a symbol starts both halves
 pub start_joined : {A B : Type 0} (l : Protocol A) (r : Protocol B) → Lawful l → Lawful r → (symbol : ℕ)
     → unwrap_or (number_reply l.tables.size r.tables.size (start_reply l.tables symbol) (start_reply r.tables symbol)) 0
     ≡ start_reply (pair l r).tables symbol
 start_joined l r ll lr symbol =
-    ⊎_elim
-    (λ reading.
-    ⊎_elim
-    (λ some.
-    let big = ltb-true 0 (pair l r).tables.size some in
-    let same = bounded_is (l.tables.size * r.tables.size) big in
-    let parts = factors l.tables.size r.tables.size (omega arith) in
-    let k = ltb-true symbol 8 reading in
-    let left : start_reply l.tables symbol ≡ l.tables.start symbol = cond-true _ _ 0 (and_from _ _ reading (lt-ltb 0 l.tables.size parts.0)) in
-    let right : start_reply r.tables symbol ≡ r.tables.start symbol = cond-true _ _ 0 (and_from _ _ reading (lt-ltb 0 r.tables.size parts.1)) in
-    ap (λ x. unwrap_or (number_reply l.tables.size r.tables.size x (start_reply r.tables symbol)) 0) left
-    ∙ ap (λ y. unwrap_or (number_reply l.tables.size r.tables.size (l.tables.start symbol) y) 0) right
-    ∙ ap (λ o. unwrap_or o 0) (number_is l.tables.size r.tables.size _ _ same.1 (ll.start_known symbol k parts.0) (lr.start_known symbol k parts.1))
-    ∙ sym (cond-true _ _ 0 (and_from _ _ reading some)))
-    (λ empty.
-    ap (λ o. unwrap_or o 0) (cond-false _ _ None (and_left _ _ empty))
-    ∙ sym (cond-false _ _ 0 (and_right (ltb symbol 8) _ empty)))
-    (cases_Bool (ltb 0 (pair l r).tables.size)))
-    (λ none.
-    let left : start_reply l.tables symbol ≡ 0 = cond-false _ _ 0 (and_left _ _ none) in
-    let right : start_reply r.tables symbol ≡ 0 = cond-false _ _ 0 (and_left _ _ none) in
-    ap (λ x. unwrap_or (number_reply l.tables.size r.tables.size x (start_reply r.tables symbol)) 0) left
-    ∙ ap (λ y. unwrap_or (number_reply l.tables.size r.tables.size 0 y) 0) right
-    ∙ zeros l.tables.size r.tables.size
-    ∙ sym (cond-false _ _ 0 (and_left _ _ none)))
-    (cases_Bool (ltb symbol 8))
-  where
-    zeros : (lefts rights : ℕ) → unwrap_or (number_reply lefts rights 0 0) 0 ≡ 0
-    zeros lefts rights =
-        cond_both (ltb 0 (bounded (lefts * rights)) && (ltb 0 lefts && ltb 0 rights)) (Some (joined rights 0 0)) None (λ o. unwrap_or o 0 ≡ 0)
-        (λ _. omega (arith, zero-mul rights)) (λ _. refl)
-
--- a bool as a number
-pub byte_is : (b : Bool) → bool_byte b ≡ one_if b
-byte_is true = refl
-byte_is false = refl
+    let left = ll.start_known symbol in
+    let right = lr.start_known symbol in
+    grind (arith, nat_tests, factors l.tables.size r.tables.size, zero-mul r.tables.size)
 
 -- the advice of a load that settles
 advised : {next : List ℕ → Advice} {meet : ℕ → ℕ → ℕ × ℕ} {n : ℕ} {states : List ℕ} {k : ℕ} → Settles next meet n states k → Advised n (next states)

@@ -4,7 +4,8 @@ ghost use Rattle.protocol.specs.Joining.{negated, both, one_if, pair, bit_at};
 ghost use Rattle.question.specs.Halves.{halves_reply, number_reply};
 ghost use Rattle.protocol.proofs.Joining.{answered_lawful, pair_lawful};
 
-use super::{Question, states};
+use super::Question;
+use super::states::{Sizes, bit_at};
 use protocol::Advice;
 use reading::Symbol;
 
@@ -21,9 +22,9 @@ pub struct Both<L, R> {
 }
 
 impl<Q: Question> Question for Not<Q> {
-    ghost meaning = { λ n. negated (Q.Question.meaning n.0) };
+    ghost meaning = { λ n. negated (Q.meaning n.0) };
 
-    ghost lawful = { λ q. answered_lawful not (Q.Question.meaning q.0).protocol (Q.Question.lawful q.0) };
+    ghost lawful = { λ q. answered_lawful not (Q.meaning q.0).protocol (Q.lawful q.0) };
 
     fn kind(&self) -> char {
         'N'
@@ -62,38 +63,49 @@ fn index_of(left: bool, right: bool) -> u32
 }
 
 impl<L: Question, R: Question> Both<L, R> {
+    // How many states each of the two has.
+    fn sizes(&self) -> Sizes
+        ensures left { result.left ≡ (L.meaning self.now.left).protocol.tables.size }
+        ensures right { result.right ≡ (R.meaning self.now.right).protocol.tables.size }
+    {
+        Sizes {
+            left: self.left.size(),
+            right: self.right.size(),
+        }
+    }
+
     // The left and the right number in a number; none for an unknown one.
     pub fn halves(&self, state: u32) -> Option<(u32, u32)>
-        ensures value { result ≡ halves_reply (L.Question.meaning self.now.left).protocol.tables.size (R.Question.meaning self.now.right).protocol.tables.size state }
-        ensures undone { (left right : ℕ) → result ≡ Some (left, right) → number_reply (L.Question.meaning self.now.left).protocol.tables.size (R.Question.meaning self.now.right).protocol.tables.size left right ≡ Some state }
+        ensures value { result ≡ halves_reply (L.meaning self.now.left).protocol.tables.size (R.meaning self.now.right).protocol.tables.size state }
+        ensures undone { (left right : ℕ) → result ≡ Some (left, right) → number_reply (L.meaning self.now.left).protocol.tables.size (R.meaning self.now.right).protocol.tables.size left right ≡ Some state }
     {
-        states::halves(self.left.size(), self.right.size(), state)
+        self.sizes().halves(state)
     }
 
     // The number of a left and a right number; none where one of them is unknown, and where the size is 0.
     pub fn number(&self, left: u32, right: u32) -> Option<u32>
-        ensures value { result ≡ number_reply (L.Question.meaning self.now.left).protocol.tables.size (R.Question.meaning self.now.right).protocol.tables.size left right }
-        ensures undone { (state : ℕ) → result ≡ Some state → halves_reply (L.Question.meaning self.now.left).protocol.tables.size (R.Question.meaning self.now.right).protocol.tables.size state ≡ Some (left, right) }
+        ensures value { result ≡ number_reply (L.meaning self.now.left).protocol.tables.size (R.meaning self.now.right).protocol.tables.size left right }
+        ensures undone { (state : ℕ) → result ≡ Some state → halves_reply (L.meaning self.now.left).protocol.tables.size (R.meaning self.now.right).protocol.tables.size state ≡ Some (left, right) }
     {
-        states::number(self.left.size(), self.right.size(), left, right)
+        self.sizes().number(left, right)
     }
 }
 
 impl<L: Question, R: Question> Question for Both<L, R> {
-    ghost meaning = { λ b. both b.rule (L.Question.meaning b.left) (R.Question.meaning b.right) };
+    ghost meaning = { λ b. both b.rule (L.meaning b.left) (R.meaning b.right) };
 
     ghost lawful = { λ q.
-        let l = (L.Question.meaning q.left).protocol in
-        let r = (R.Question.meaning q.right).protocol in
+        let l = (L.meaning q.left).protocol in
+        let r = (R.meaning q.right).protocol in
         answered_lawful (λ b. bit_at q.rule (2 * one_if b.0 + one_if b.1)) (pair l r)
-        (pair_lawful l r (L.Question.lawful q.left) (R.Question.lawful q.right)) };
+        (pair_lawful l r (L.lawful q.left) (R.lawful q.right)) };
 
     fn kind(&self) -> char {
         'B'
     }
 
     fn size(&self) -> u64 {
-        states::product(self.left.size(), self.right.size())
+        self.sizes().product()
     }
 
     fn start(&self, symbol: Symbol) -> u32 {
@@ -106,21 +118,19 @@ impl<L: Question, R: Question> Question for Both<L, R> {
             return false;
         };
         let answers = index_of(self.left.answer(left), self.right.answer(right));
-        states::bit_at(u64::from(self.rule), answers)
+        bit_at(u64::from(self.rule), answers)
     }
 
     fn meet(&self, first: u32, second: u32) -> (u32, u32) {
-        let (Some(a), Some(b)) = (self.halves(first), self.halves(second)) else {
-            return (first, second);
-        };
-        let left = self.left.meet(a.0, b.0);
-        let right = self.right.meet(a.1, b.1);
-        (
-            self.number(left.0, right.0).unwrap_or(first),
-            self.number(left.1, right.1).unwrap_or(second),
+        self.sizes().meet(
+            first,
+            second,
+            |a, b| self.left.meet(a, b),
+            |a, b| self.right.meet(a, b),
         )
     }
 
+    // Not a method of `Sizes`: that would have to require that the sum fits, which the laws of the two show here.
     fn weight(&self) -> u64 {
         if self.size() == 0 {
             0
@@ -130,12 +140,11 @@ impl<L: Question, R: Question> Question for Both<L, R> {
     }
 
     fn advice(&self, words: &[u32], unit: u64) -> Advice {
-        if words.is_empty() || !states::allowed(unit, self.size()) {
-            return Advice::Lost;
-        }
-        match self.left.advice(words, unit * self.right.size()) {
-            Advice::Settled => self.right.advice(words, unit),
-            other => other,
-        }
+        self.sizes().advice(
+            words,
+            unit,
+            |unit| self.left.advice(words, unit),
+            |unit| self.right.advice(words, unit),
+        )
     }
 }

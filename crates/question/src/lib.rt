@@ -16,11 +16,12 @@ pub mod states;
 pub trait Question {
     ghost meaning: { Self → Meaning };
 
-    // The letter of its kind.
+    // The letter of its kind. A letter and no enum: whoever implements the trait may add a kind.
     fn kind(&self) -> char
         ensures { result ≡ (meaning self.now).kind };
 
-    // How many states it has, or 0 where they would be more than words of 32 bits can number. A number below the size is known.
+    // How many states it has, or 0 where they would be more than words of 32 bits can number. A number below the size is known, so that with 0,
+    // a number and no None, none is.
     fn size(&self) -> u64
         ensures { result ≡ (meaning self.now).protocol.tables.size };
 
@@ -41,6 +42,7 @@ pub trait Question {
         ensures { result ≡ (meaning self.now).protocol.weight };
 
     // Who should meet next, where the unit reads each tag's state in its word. A load asks with unit 1.
+    // Words and a unit apart, since a layer asks with the same words and another unit.
     // Lost without words, with size 0 or unit 0, and where unit × size is above 2^32; a kind may be Lost on states that no load comes to.
     fn advice(&self, words: &[u32], unit: u64) -> Advice
         ensures { result ≡ advice_reply (meaning self.now).protocol words.now unit };
@@ -52,5 +54,5 @@ pub trait Question {
 // The laws over words, as a theorem: wherever an allowed unit reads states that a load can come to, the advice names two different places of
 // the load or is Settled, following it settles the load, a settled load answers the truth, and no meeting unsettles it.
 pub fn laws_hold_of_words<Q: Question>(question: &Q)
-    ensures { LawfulOnWords (Q.Question.meaning question.now).protocol }
+    ensures { LawfulOnWords (Q.meaning question.now).protocol }
 {}

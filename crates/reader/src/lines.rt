@@ -11,16 +11,19 @@ pub(crate) struct Line<'a> {
     pub(crate) others: Vec<&'a str>,
 }
 
-pub(crate) fn read<'a>(heap: Global, text: &'a str) -> Result<Line<'a>, AllocError>
-    ensures { IfOk result (λ l. Parsed text.now l.bytes.items (map (λ x. x.now) l.others.items)) }
-{
-    let mut bytes = Vec::new(heap);
-    let mut others = Vec::new(heap);
-    for word in text.split_whitespace() {
-        match word.parse::<u8>() {
-            Ok(byte) => bytes.push(byte)?,
-            Err(_) => others.push(word)?,
+impl<'a> Line<'a> {
+    pub(crate) fn parse(heap: Global, text: &'a str) -> Result<Self, AllocError>
+        ensures { IfOk result (λ l. Parsed text.now l.bytes.items (map (λ x. x.now) l.others.items)) }
+    {
+        let mut bytes = Vec::new(heap);
+        let mut others = Vec::new(heap);
+        // A loop: a closure under `partition` could not pass on that a `push` failed.
+        for word in text.split_whitespace() {
+            match word.parse::<u8>() {
+                Ok(byte) => bytes.push(byte)?,
+                Err(_) => others.push(word)?,
+            }
         }
+        Ok(Line { bytes, others })
     }
-    Ok(Line { bytes, others })
 }

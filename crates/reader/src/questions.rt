@@ -6,7 +6,7 @@ use reading::{SYMBOLS, Symbol};
 use std::fmt::Write;
 
 // Two questions and one that is refused, each by its name.
-pub(crate) fn show_some(rt: &HostRuntime) -> anyhow::Result<()> {
+pub(crate) fn show_some(rt: &(impl Print + AllocGlobal)) -> anyhow::Result<()> {
     let few = Threshold::new([3, 0, 0, 0, 0, 0, 0, 0], 7)?;
     show(rt, "3a < 7", &few, Symbol(0), Symbol(0))?;
     let lanes = [
@@ -23,7 +23,7 @@ pub(crate) fn show_some(rt: &HostRuntime) -> anyhow::Result<()> {
 
 // What a question is, in which state each symbol starts, and what a meeting of two tags with these symbols leaves.
 fn show<Q: Question>(
-    rt: &HostRuntime,
+    rt: &(impl Print + AllocGlobal),
     name: &str,
     question: &Q,
     first: Symbol,
@@ -34,8 +34,7 @@ fn show<Q: Question>(
     let weight = question.weight();
     println!(rt; "{name}: kind {kind}, size {size}, weight {weight}")?;
     let mut starts = format!(in rt.alloc(); "  starts:")?;
-    for number in 0..SYMBOLS {
-        let symbol = Symbol(number as u8);
+    for symbol in (0..).map(Symbol).take(SYMBOLS) {
         let state = question.start(symbol);
         write!(starts, " {symbol} {state}")?;
     }

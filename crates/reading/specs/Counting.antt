@@ -1,6 +1,10 @@
 -- How often each symbol comes among the readings of a load. Assumes nothing.
-use Rattle.std.specs.Prelude.{ℕ, ◌+◌, cond, List, [], ◌∷◌, map, count_by, nat_eq, nat_lt, slice_index, slice_set}
+use Rattle.std.specs.Prelude.{ℕ, ◌+◌, cond, List, [], ◌∷◌, map, Some, None, Option, count_by, nat_eq, nat_lt, slice_index, slice_set}
 use Rattle.reading.specs.declared.Symbol.{Symbol}
+
+-- the place of a symbol among the readings a to h, if it is one
+abbrev pub index_of : Symbol → Option ℕ
+index_of s = cond (nat_lt s.0 8) (Some s.0) None
 
 -- how many of the symbols have the number k
 abbrev pub occurs : ℕ → List Symbol → ℕ

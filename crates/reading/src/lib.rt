@@ -3,7 +3,7 @@
 #![tactic(auto)]
 
 ghost use Rattle.std.specs.Prelude.{◌≡◌, ◌+◌, ◌^◌, ◌<◌, Some, slice_index};
-ghost use Rattle.reading.specs.Counting.{counts_of, counted};
+ghost use Rattle.reading.specs.Counting.{index_of, counts_of, counted};
 ghost use Rattle.reading.specs.Letters.{symbol_text, counts_text};
 
 use std::fmt;
@@ -11,7 +11,8 @@ use std::fmt;
 // How many symbols a reading can be: a to h.
 pub const SYMBOLS: usize = 8;
 
-// A symbol by its number: 0 to 7 are the readings a to h, and a larger one is no reading.
+// A symbol by its number: 0 to 7 are the readings a to h, and a larger one is no reading. An enum would have no place for those, which a load
+// refuses.
 #[derive(Clone, Copy, PartialEq, Eq, Debug)]
 pub struct Symbol(pub u8);
 
@@ -19,10 +20,21 @@ pub struct Symbol(pub u8);
 #[derive(Clone, Copy, PartialEq, Eq, Debug)]
 pub struct Counts(pub [usize; SYMBOLS]);
 
+impl Symbol {
+    // Its place among the readings a to h; none where it is no reading.
+    pub fn index(self) -> Option<usize>
+        ensures { result ≡ index_of self }
+    {
+        let index = usize::from(self.0);
+        (index < SYMBOLS).then_some(index)
+    }
+}
+
 impl Counts {
     pub fn of(symbols: &[Symbol]) -> Counts
         ensures { result.0 ≡ counts_of symbols.now }
     {
+        // A loop, since `add` changes the counts where they are.
         let mut counts = Counts([0; SYMBOLS]);
         for symbol in symbols {
             counts.add(*symbol);
@@ -35,9 +47,8 @@ impl Counts {
         requires { slice_index self.old.0 symbol.0 + 1 < 2 ^ 64 }
         ensures { self.new.0 ≡ counted self.old.0 symbol }
     {
-        let k = usize::from(symbol.0);
-        if k < SYMBOLS {
-            self.0[k] += 1;
+        if let Some(index) = symbol.index() {
+            self.0[index] += 1;
         }
     }
 }
@@ -48,7 +59,7 @@ impl fmt::Display for Symbol {
 
     fn fmt<W: fmt::Write>(&self, f: &mut fmt::Formatter<W>) -> fmt::Result {
         let number = self.0;
-        if usize::from(number) < SYMBOLS {
+        if self.index().is_some() {
             let letter = char::from(b'a' + number);
             write!(f, "{letter}")
         } else {
@@ -63,6 +74,7 @@ impl fmt::Display for Counts {
 
     fn fmt<W: fmt::Write>(&self, f: &mut fmt::Formatter<W>) -> fmt::Result {
         let n = self.0;
+        // Two formats, and no loop: the bytes of a `write!` in a loop are not known to a proof.
         write!(f, "a {} b {} c {} d {}", n[0], n[1], n[2], n[3])?;
         write!(f, " e {} f {} g {} h {}", n[4], n[5], n[6], n[7])
     }

@@ -45,12 +45,6 @@ pub struct Fault {
 }
 
 impl Refusal {
-    pub fn number(self) -> u8
-        ensures { result ≡ number_of self }
-    {
-        self as u8
-    }
-
     pub fn layer(self) -> Layer
         ensures { result ≡ layer_of self }
     {
@@ -84,10 +78,11 @@ impl Refusal {
     pub fn unless(self, holds: bool, place: usize) -> Result<(), Fault>
         ensures { result ≡ check self holds place }
     {
+        // Two arms: `ok_or` would first have to make an Option of the bool.
         if holds { Ok(()) } else { Err(self.at(place)) }
     }
 
-    // What is wrong, in words for whoever made the call.
+    // What is wrong, in words for whoever made the call. A derive of `thiserror` would print it too, and promise nothing of what it prints.
     fn sentence(self) -> &'static str
         ensures { result.now ≡ sentence_of self }
     {
@@ -117,6 +112,15 @@ impl Refusal {
 pub fn first_no_decides()
     ensures { FirstNoDecides }
 {}
+
+// The number by which users know a refusal.
+impl From<Refusal> for u8 {
+    ghost from_gives = { λ refusal number. number ≡ number_of refusal };
+
+    fn from(refusal: Refusal) -> u8 {
+        refusal as u8
+    }
+}
 
 impl Layer {
     fn name(self) -> &'static str
@@ -152,9 +156,8 @@ impl fmt::Display for Fault {
     ghost output = { λ x. Some (fault_text x) };
 
     fn fmt<W: fmt::Write>(&self, f: &mut fmt::Formatter<W>) -> fmt::Result {
-        let refusal = self.refusal;
-        let number = refusal.number();
-        let place = self.place;
+        let Fault { refusal, place } = *self;
+        let number = u8::from(refusal);
         let layer = refusal.layer();
         write!(f, "refused {number} at {place} {layer}: {refusal}")
     }

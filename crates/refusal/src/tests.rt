@@ -21,7 +21,7 @@ fn each_refusal_has_its_number_and_layer(rt: HostRuntime) {
         (Refusal::UnknownState, 14, Layer::Load),
     ];
     for (refusal, number, layer) in rows {
-        assert_eq!(rt; refusal.number(), number);
+        assert_eq!(rt; u8::from(refusal), number);
         assert_eq!(rt; refusal.layer(), layer);
     }
 }

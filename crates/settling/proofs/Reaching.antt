@@ -1,21 +1,20 @@
 -- Words that a load can come to: each is known, the advice reads it as it stands, and it meets by the tables. Assumes nothing.
-use Rattle.std.proofs.Common.{◌≡◌, ℕ, zero, suc, ◌*◌, ◌%◌, ◌^◌, ◌<◌, Bool, true, leb, List, [], ◌∷◌, map, length, get_or, set, sym, refl, ap, ◌∙◌, subst, ⊎_elim, le_of_suc-le-suc, not-suc-le-zero, mod-eq_of_lt, one-mul, div-one, arith}
-use Rattle.std.proofs.lemmas.Bool.{cases_eq, cond-true, and_from, lt-ltb, le-leb}
+use Rattle.std.proofs.Common.{◌≡◌, ℕ, zero, suc, ◌<◌, Bool, List, [], ◌∷◌, map, length, get_or, sym, refl, ◌∙◌, subst, le_of_suc-le-suc, not-suc-le-zero, mod-eq_of_lt, div-one, arith}
+use Rattle.std.proofs.lemmas.Bool.Decides.{nat_tests}
+use Rattle.std.proofs.lemmas.Grind.{common_steps}
 use Rattle.std.specs.List.{AllByRecursion}
 use Rattle.reading.specs.declared.Symbol.{Symbol}
 use Rattle.protocol.specs.Laws.{Lawful, Readings, Reached, started, met}
 use Rattle.protocol.specs.Places.{Apart, meeting, state_at}
-use Rattle.protocol.specs.Protocols.{Protocol, Tables, start_reply, answer_reply, meet_reply, advice_reply, state_read}
-use Rattle.protocol.proofs.Places.{length-meeting, meeting_first, meeting_second, meeting_other, reached_length}
-use Rattle.question.proofs.Replies.{meet_known_is}
+use Rattle.protocol.specs.Protocols.{Protocol, Tables, answer_reply, meet_reply, advice_reply, state_read}
+use Rattle.protocol.proofs.Places.{length-meeting, reached_length}
 use Rattle.load.specs.Asked.{start_words}
 use Rattle.settling.proofs.Verdicts.{Fit}
 
 -- known words meet by the tables
 pub meets_known : (t : Tables Bool) (words : List ℕ) (i j : ℕ) → state_at words i < t.size → state_at words j < t.size
     → meeting (meet_reply t) words i j ≡ meeting t.meet words i j
-meets_known t words i j hi hj =
-    ap (λ (left : ℕ × ℕ). set (set words i left.0) j left.1) (meet_known_is t (state_at words i) (state_at words j) hi hj)
+meets_known t words i j hi hj = grind (arith, nat_tests)
 
 -- and leave their meeting known
 pub meeting_known : (p : Protocol Bool) → Lawful p → (tags : ℕ) (words : List ℕ) → Fit p.tables tags words → (i j : ℕ) → Apart tags i j
@@ -23,20 +22,9 @@ pub meeting_known : (p : Protocol Bool) → Lawful p → (tags : ℕ) (words : L
 meeting_known p law tags words fit i j apart =
     let t = p.tables in
     let left = law.meet_known (state_at words i) (state_at words j) (fit.known i apart.first_within) (fit.known j apart.second_within) in
-    let within : Apart (length words) i j = subst (λ n. Apart n i j) (sym fit.long) apart in
     record {
       long = length-meeting t.meet words i j ∙ fit.long;
-      known = λ place h.
-          ⊎_elim
-          (λ e. subst (λ k. state_at (meeting t.meet words i j) k < t.size) (sym e)
-          (subst (λ q. q < t.size) (sym (meeting_first t.meet words i j within)) left.0))
-          (λ ni.
-          ⊎_elim
-          (λ e. subst (λ k. state_at (meeting t.meet words i j) k < t.size) (sym e)
-          (subst (λ q. q < t.size) (sym (meeting_second t.meet words i j within)) left.1))
-          (λ nj. subst (λ q. q < t.size) (sym (meeting_other t.meet words i j place ni nj)) (fit.known place h))
-          (cases_eq place j))
-          (cases_eq place i);
+      known = λ place h. let known = fit.known place h in grind (arith, common_steps);
     }
 
 starts_known : (start : ℕ → ℕ) (size : ℕ) → ((k : ℕ) → k < 8 → start k < size) → (symbols : List Symbol) → AllByRecursion (λ s. s.0 < 8) symbols
@@ -49,26 +37,26 @@ starts_by_table : (t : Tables Bool) → 0 < t.size → (symbols : List Symbol) �
     → start_words t symbols ≡ map (λ s. t.start s.0) symbols
 starts_by_table t big [] each = refl
 starts_by_table t big (s ∷ ss) each =
-    let here : start_reply t s.0 ≡ t.start s.0 = cond-true _ _ 0 (and_from _ _ (lt-ltb s.0 8 each.0) (lt-ltb 0 t.size big)) in
-    ap (λ w. w ∷ start_words t ss) here ∙ ap (λ ws. t.start s.0 ∷ ws) (starts_by_table t big ss each.1)
+    let rest = starts_by_table t big ss each.1 in grind (arith, nat_tests)
 
 -- unit 1 reads a known word as itself
 reads_itself : (size : ℕ) (words : List ℕ) → ((place : ℕ) → place < length words → get_or words place 0 < size) → map (state_read 1 size) words ≡ words
 reads_itself size [] known = refl
 reads_itself size (w ∷ ws) known =
-    let here : state_read 1 size w ≡ w = ap (λ x. x % size) (div-one w) ∙ mod-eq_of_lt (known 0 (omega arith)) in
-    ap (λ x. x ∷ map (state_read 1 size) ws) here ∙ ap (λ xs. w ∷ xs) (reads_itself size ws (λ place h. known (suc place) (omega arith)))
+    let here : state_read 1 size w ≡ w = rw div-one (mod-eq_of_lt (known 0 (omega arith))) in
+    let rest = reads_itself size ws (λ place h. known (suc place) (omega arith)) in
+    cc
 
 -- the advice on known words is that on the states
-pub advice_on_known : (p : Protocol Bool) → Lawful p → (tags : ℕ) (words : List ℕ) → 0 < tags → Fit p.tables tags words
+advice_on_known : (p : Protocol Bool) → Lawful p → (tags : ℕ) (words : List ℕ) → 0 < tags → Fit p.tables tags words
     → advice_reply p words 1 ≡ p.next words
 advice_on_known p law tags words some fit =
     let size = p.tables.size in
-    let here = fit.known 0 some in
-    let one : leb (1 * size) (2 ^ 32) ≡ true = le-leb (1 * size) (2 ^ 32) (omega (arith, one-mul size, law.size_fits)) in
+    let first = fit.known 0 some in
     let long = fit.long in
-    cond-true _ _ _ (and_from _ _ (lt-ltb 0 (length words) (omega arith)) (and_from _ _ (lt-ltb 0 1 (omega arith)) (and_from _ _ (lt-ltb 0 size (omega arith)) one)))
-    ∙ ap p.next (reads_itself size words (λ place h. fit.known place (subst (λ n. place < n) long h)))
+    let fits = law.size_fits in
+    let reads = reads_itself size words (λ place h. fit.known place (subst (λ n. place < n) long h)) in
+    grind (arith, nat_tests)
 
 module _ (p : Protocol Bool) (law : Lawful p) (symbols : List Symbol) (readings : Readings symbols) (big : 0 < p.tables.size) where
   pub reached_fits : {words : List ℕ} → Reached p.tables.start p.tables.meet symbols words → Fit p.tables (length symbols) words
@@ -88,4 +76,4 @@ module _ (p : Protocol Bool) (law : Lawful p) (symbols : List Symbol) (readings 
 
 -- the answer of a known word is the table's
 pub answers_known : (t : Tables Bool) (word : ℕ) → word < t.size → answer_reply t word ≡ t.answer word
-answers_known t word h = cond-true _ _ _ (lt-ltb word t.size h)
+answers_known t word h = grind (arith, nat_tests)

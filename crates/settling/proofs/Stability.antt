@@ -1,5 +1,5 @@
 -- Every question that keeps the laws computes stably: wherever a list of calls leaves a load, it still computes. Assumes nothing.
-use Rattle.std.proofs.Common.{◌≡◌, ℕ, suc, ◌-◌, ◌*◌, ◌<◌, Bool, List, length, sym, refl, ap, ◌∙◌, subst, arith}
+use Rattle.std.proofs.Common.{◌≡◌, ℕ, suc, ◌-◌, ◌*◌, ◌<◌, Bool, List, length, Ok, sym, refl, ap, ◌∙◌, subst, arith}
 use Rattle.reading.specs.Counting.{counts_of}
 use Rattle.reading.specs.declared.Symbol.{Symbol}
 use Rattle.refusal.specs.declared.Fault.{Fault}
@@ -9,21 +9,31 @@ use Rattle.protocol.specs.Laws as laws
 use Rattle.protocol.specs.Laws.{Lawful, Readings, Reached, met, Settles, step, Stable}
 use Rattle.protocol.specs.Places.{Apart, meeting, state_at}
 use Rattle.protocol.specs.Protocols.{Protocol, answer_reply, meet_reply, advice_reply}
-use Rattle.load.specs.Calls.{Call, open_granted, open_refused, finish_granted, finish_refused, broken_off, advise_granted, advise_refused, read_granted, read_refused, Calls, none, call, other_words, Start, started, Request, Reply, Finish, Advise, Read, done, refused, advised, answered}
+use Rattle.load.specs.Asked.{open_verdict, advise_verdict}
+use Rattle.load.specs.Calls.{Call, open_granted, open_refused, finish_granted, finish_refused, broken_off, advise_granted, advise_refused, read_granted, read_refused, Calls, none, call, other_words, Start, started, Request, Reply, Advise, Read, refused, advised, answered}
 use Rattle.load.specs.Phases.{Phase, ready, opened}
 use Rattle.settling.specs.Following as following
 use Rattle.settling.specs.Following.{IsSettled, AdvisedMeeting, AdvisedMeetings, meets, SettlesWith}
 use Rattle.settling.specs.Stability.{TouchedByCalls, StillComputes, StablyComputes}
 use Rattle.settling.proofs.Reaching.{reached_fits, start_reached, advice_is, answers_known, meets_known}
-use Rattle.settling.proofs.Verdicts.{start_facts, open_facts, read_facts, open_grants, finish_grants, advise_grants}
+use Rattle.settling.proofs.Verdicts.{start_facts, open_facts, open_finishes, read_facts, open_grants, advise_grants}
 
 -- a granted advise tells the question's advice
 pub advice_told : {p : Protocol Bool} {before : Phase} {words : List ℕ} {a : Advice} {after : Phase} {left : List ℕ} → Call p Advise before words (advised a) after left → a ≡ advice_reply p words 1
 advice_told (advise_granted e) = refl
 
--- a granted read tells the tag's answer, at a place of the load
-pub answer_told : {p : Protocol Bool} {place : ℕ} {before after : Phase} {words left : List ℕ} {b : Bool} → Call p (Read place) before words (answered b) after left → b ≡ answer_reply p.tables (state_at words place)
-answer_told (read_granted e) = refl
+-- an advised meeting, by what its three calls ask
+pub meeting_advised : (p : Protocol Bool) (tags : ℕ) (words : List ℕ) (first second : ℕ) → advise_verdict p.tables tags words ≡ Ok tt
+    → advice_reply p words 1 ≡ Meet first second → open_verdict p.tables tags first second words ≡ Ok tt
+    → AdvisedMeeting p tags words (meeting (meet_reply p.tables) words first second)
+meeting_advised p tags words first second asked named opens =
+    record {
+      first = first;
+      second = second;
+      advice = subst (λ a. Call p Advise (ready tags) words (advised a) (ready tags) words) named (advise_granted asked);
+      opening = open_granted opens;
+      finishing = finish_granted (open_finishes p.tables tags words first second opens);
+    }
 
 -- a refused call leaves the load as it was
 refused_stays : {p : Protocol Bool} {request : Request} {before after : Phase} {words left : List ℕ} {f : Fault} → Call p request before words (refused f) after left → before ≡ after
@@ -47,8 +57,8 @@ module _ (p : Protocol Bool) (symbols : List Symbol) where
   kept_reaches (opened tags first second) k = k.1
 
 not_lost_from : {next : List ℕ → Advice} {meet : ℕ → ℕ → ℕ × ℕ} {n : ℕ} {words : List ℕ} {k : ℕ} → Settles next meet n words k → next words ≡ Lost → ⊥
-not_lost_from (laws.done e) lost = let z : ◌≡◌ {A = ℕ} 0 1 = cc in omega arith
-not_lost_from (step first second e apart rest) lost = let z : ◌≡◌ {A = ℕ} 0 1 = cc in omega arith
+not_lost_from (laws.done e) lost = cc
+not_lost_from (step first second e apart rest) lost = cc
 
 module _ (p : Protocol Bool) (law : Lawful p) (symbols : List Symbol) (readings : Readings symbols) (big : 0 < p.tables.size) where
   stable_at : {words : List ℕ} → Reaches p symbols words → Stable p symbols words
@@ -79,7 +89,7 @@ module _ (p : Protocol Bool) (law : Lawful p) (symbols : List Symbol) (readings 
   call_keeps (read_granted e) k = k
   call_keeps (read_refused e) k = k
 
-  pub calls_keep : {calls : List (Request × Reply)} {before after : Phase} {words end : List ℕ} → Calls p before words calls after end → Kept p symbols before words → Kept p symbols after end
+  calls_keep : {calls : List (Request × Reply)} {before after : Phase} {words end : List ℕ} → Calls p before words calls after end → Kept p symbols before words → Kept p symbols after end
   calls_keep none k = k
   calls_keep (call one rest) k = calls_keep rest (call_keeps one k)
   calls_keep {words = words} (other_words e one rest) k = calls_keep rest (subst (λ phase. Kept p symbols phase words) (refused_stays one) k)
@@ -110,18 +120,11 @@ module _ (p : Protocol Bool) (law : Lawful p) (symbols : List Symbol) (readings 
   advised_meeting : {words : List ℕ} → Reaches p symbols words → (first second : ℕ) → p.next words ≡ Meet first second → Apart (length symbols) first second
       → AdvisedMeeting p (length symbols) words (meeting p.tables.meet words first second)
   advised_meeting {words} reached first second e apart =
-      let t = p.tables in
       let n = length symbols in
       let fit = reached_fits p law symbols readings big reached in
-      let one = fit.known first apart.first_within in
-      let two = fit.known second apart.second_within in
-      record {
-        first = first;
-        second = second;
-        advice = subst (λ a. Call p Advise (ready n) words (advised a) (ready n) words) (advice_is p law symbols readings big reached ∙ e) (advise_granted (advise_grants t n words fit));
-        opening = open_granted (open_grants t n words fit first second apart);
-        finishing = subst (Call p Finish (opened n first second) words done (ready n)) (meets_known t words first second one two) (finish_granted (finish_grants t n words first second fit.long one two));
-      }
+      subst (AdvisedMeeting p n words) (meets_known p.tables words first second (fit.known first apart.first_within) (fit.known second apart.second_within))
+      (meeting_advised p n words first second (advise_grants p.tables n words fit) (advice_is p law symbols readings big reached ∙ e)
+      (open_grants p.tables n words fit first second apart))
 
   -- following the advice by calls goes where the question's law leads
   follows : {words : List ℕ} {k : ℕ} → Reaches p symbols words → Settles p.next p.tables.meet (length symbols) words k
@@ -151,7 +154,7 @@ module _ (p : Protocol Bool) (law : Lawful p) (symbols : List Symbol) (readings 
       → Call p (Read place) phase words (answered b) after left → b ≡ p.truth (counts_of symbols)
   read_right k s (read_granted {tags} {place} {words} e) = right_from k.1 s place (subst (λ n. place < n) k.0 (read_facts p.tables tags words place e))
 
-  pub kept_computes : (phase : Phase) (words : List ℕ) → Kept p symbols phase words → StillComputes p symbols phase words
+  kept_computes : (phase : Phase) (words : List ℕ) → Kept p symbols phase words → StillComputes p symbols phase words
   kept_computes phase words k =
       let reached = kept_reaches p symbols phase k in
       let fit = reached_fits p law symbols readings big reached in
@@ -169,7 +172,7 @@ module _ (p : Protocol Bool) (law : Lawful p) (symbols : List Symbol) (readings 
       settles_from tags k = subst (λ n. (end : List ℕ) × SettlesWith p n words (p.weight * (n - 1)) end) (sym k.0) (follows k.1 (stable_at k.1).settles)
 
 -- a granted start is kept by every list of calls
-pub touched_kept : (p : Protocol Bool) (law : Lawful p) (symbols : List Symbol) (phase : Phase) (words : List ℕ) → TouchedByCalls p symbols phase words
+touched_kept : (p : Protocol Bool) (law : Lawful p) (symbols : List Symbol) (phase : Phase) (words : List ℕ) → TouchedByCalls p symbols phase words
     → (readings : Readings symbols) × (big : 0 < p.tables.size) × Kept p symbols phase words
 touched_kept p law symbols phase words it = from it.started it.called
   where

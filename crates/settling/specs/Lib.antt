@@ -1,4 +1,3 @@
 pub mod Following
 pub mod Stability
 pub mod Settle
-pub mod Steps

@@ -2,11 +2,10 @@
 use Rattle.std.specs.Prelude.{◌≡◌, ℕ, ◌-◌, ◌*◌, ◌≤◌, Bool, List, length, Ok, Err, Result}
 use Rattle.reading.specs.declared.Symbol.{Symbol}
 use Rattle.refusal.specs.declared.Fault.{Fault}
-use Rattle.refusal.specs.Checks.{verdict}
 use Rattle.protocol.specs.declared.Advice.{Advice}
 use Rattle.protocol.specs.declared.Advice.TheVariants.{Settled}
 use Rattle.protocol.specs.Protocols.{Protocol, advice_reply}
-use Rattle.load.specs.Asked.{advise_checks, start_words}
+use Rattle.load.specs.Asked.{advise_verdict, start_words}
 use Rattle.load.specs.declared.phases.Ready.{Ready}
 use Rattle.load.specs.declared.phases.Refused.{Refused}
 use Rattle.load.specs.Phases.{Phase, ready, of_ready}
@@ -28,11 +27,11 @@ pub record Settling (p : Protocol Bool) (tags : ℕ) (words : List ℕ) (meeting
 -- what it answers: refused as advise is, and then nothing has changed; else the same load, the meetings made and the advice at the end
 abbrev pub AnswersSettle : Protocol Bool → Ready → List ℕ → Result Followed (Refused Ready) → List ℕ → Type 0
 AnswersSettle p load words (Ok f) end =
-    (verdict (advise_checks p.tables load.tags words) ≡ Ok tt)
+    (advise_verdict p.tables load.tags words ≡ Ok tt)
     × (of_ready f.load ≡ of_ready load)
     × Settling p load.tags words f.meetings f.advice end
 AnswersSettle p load words (Err r) end =
-    (verdict (advise_checks p.tables load.tags words) ≡ Err r.fault) × (of_ready r.kept ≡ of_ready load) × (end ≡ words)
+    (advise_verdict p.tables load.tags words ≡ Err r.fault) × (of_ready r.kept ≡ of_ready load) × (end ≡ words)
 
 -- the load that it gives, or gives back
 abbrev pub load_after : Result Followed (Refused Ready) → Phase

@@ -6,6 +6,7 @@ use question::Question;
 use question::layers::{Both, Not};
 use reading::Symbol;
 use refusal::{Fault, Refusal};
+use std::alloc::{AllocError, Global};
 use std::process::Abort;
 use std::test::Fail;
 
@@ -31,32 +32,27 @@ fn any(mask: u8) -> Lane {
     Lane::Presence(Presence { mask })
 }
 
-// Starts a load of letters a to h and follows the advice: how many meetings settle it, and what every tag then answers.
-fn settled<Q: Question>(
-    rt: &impl Abort,
-    q: &Q,
-    load: &[u8],
-    words: &mut [u32],
-) -> Result<(usize, bool), Fail> {
+// The words in which a load of letters a to h starts.
+fn started<Q: Question>(alloc: Global, q: &Q, load: &[u8]) -> Result<Vec<u32>, AllocError> {
+    load.iter()
+        .map(|letter| q.start(Symbol(letter.wrapping_sub(b'a'))))
+        .collect(alloc)
+}
+
+// Follows the advice: how many meetings settle the load, and what every tag then answers.
+fn followed<Q: Question>(rt: &impl Abort, q: &Q, words: &mut [u32]) -> Result<(usize, bool), Fail> {
     let tags = words.len();
-    assert!(rt; 0 < tags && tags == load.len());
-    for place in 0..tags {
-        words[place] = q.start(Symbol(load[place].wrapping_sub(b'a')));
-    }
+    assert!(rt; 0 < tags);
     let most = q.weight().saturating_mul((tags - 1) as u64) as usize;
     for meetings in 0..=most {
         match q.advice(words, 1) {
             Advice::Meet(first, second) => {
                 assert!(rt; first < tags && second < tags && first != second);
-                let left = q.meet(words[first], words[second]);
-                words[first] = left.0;
-                words[second] = left.1;
+                (words[first], words[second]) = q.meet(words[first], words[second]);
             }
             Advice::Settled => {
                 let answer = q.answer(words[0]);
-                for word in words.iter() {
-                    assert!(rt; q.answer(*word) == answer);
-                }
+                assert!(rt; words.iter().all(|&word| q.answer(word) == answer));
                 return Ok((meetings, answer));
             }
             Advice::Lost => return Err(Fail::new("the load is lost")),
@@ -65,40 +61,38 @@ fn settled<Q: Question>(
     Err(Fail::new("the load is not settled in time"))
 }
 
-// One row of a table of loads: the meetings, the words left, and the answer.
+// Starts the load and follows the advice: the meetings, the words left, and the answer.
 fn settles<Q: Question>(
-    rt: &impl Abort,
+    rt: &(impl Abort + AllocGlobal),
     q: &Q,
     load: &[u8],
     meetings: usize,
     left: &[u32],
     answer: bool,
 ) -> Result<(), Fail> {
-    let mut room = [u32::MAX; 8];
-    assert!(rt; load.len() <= 8);
-    let words = &mut room[0..load.len()];
-    assert_eq!(rt; settled(rt, q, load, words)?, (meetings, answer));
-    assert_eq!(rt; &*words, left);
+    let mut words = started(rt.alloc(), q, load)?;
+    assert_eq!(rt; followed(rt, q, &mut words)?, (meetings, answer));
+    assert_eq!(rt; words.as_slice(), left);
     Ok(())
 }
 
+// A load of letters, the meetings that settle it, the words that they leave, and the answer.
+type LoadRow<'a> = (&'a [u8], usize, &'a [u32], bool);
+
 // A load whose first tag has one letter and the others another.
 fn large<Q: Question>(
-    rt: &impl Abort,
+    rt: &(impl Abort + AllocGlobal),
     q: &Q,
     tags: usize,
     letters: [u8; 2],
     meetings: usize,
     answer: bool,
 ) -> Result<(), Fail> {
-    let mut load = [letters[1]; 1024];
-    load[0] = letters[0];
-    let mut words = [0; 1024];
-    assert!(rt; tags <= 1024);
-    assert_eq!(rt;
-        settled(rt, q, &load[0..tags], &mut words[0..tags])?,
-        (meetings, answer)
-    );
+    let [first, other] = letters;
+    let mut load = vec![in rt.alloc(); first]?;
+    load.resize(tags, other)?;
+    let mut words = started(rt.alloc(), q, &load)?;
+    assert_eq!(rt; followed(rt, q, &mut words)?, (meetings, answer));
     Ok(())
 }
 
@@ -115,10 +109,9 @@ fn replies<Q: Question>(
     assert_eq!(rt; q.kind(), kind);
     assert_eq!(rt; q.size(), u64::from(size));
     assert_eq!(rt; q.weight(), weight);
-    for symbol in 0..8u8 {
-        let place = usize::from(symbol);
-        assert_eq!(rt; q.start(Symbol(symbol)), starts[place]);
-        assert_eq!(rt; q.answer(starts[place]), answers[place] == b'y');
+    for ((symbol, start), answer) in (0..).zip(starts).zip(answers) {
+        assert_eq!(rt; q.start(Symbol(symbol)), start);
+        assert_eq!(rt; q.answer(start), *answer == b'y');
     }
     assert_eq!(rt; q.start(Symbol(8)), 0);
     assert_eq!(rt; q.start(Symbol(255)), 0);
@@ -132,26 +125,22 @@ fn replies<Q: Question>(
     }
 }
 
-// The advice on states, and the same with larger units, whatever the other digits of the words are.
+// The advice on each row's states, and the same with larger units, whatever the other digits of the words are.
 fn advises<Q: Question>(
-    rt: &impl Abort,
+    rt: &(impl Abort + AllocGlobal),
     q: &Q,
-    states: &[u32],
-    advice: Advice,
+    rows: &[(&[u32], Advice)],
 ) -> Result<(), Fail> {
-    assert_eq!(rt; q.advice(states, 1), advice);
-    for (unit, high, low) in [(2, 1, 1), (10, 3, 7), (1000, 50, 999), (2503, 0, 2502)] {
-        let mut room = [0; 4];
-        assert!(rt; states.len() <= 4);
-        let words = &mut room[0..states.len()];
-        for place in 0..states.len() {
-            let digits = q
-                .size()
-                .wrapping_mul(high + place as u64)
-                .wrapping_add(u64::from(states[place]));
-            words[place] = u32::try_from(digits.wrapping_mul(unit).wrapping_add(low))?;
+    for &(states, advice) in rows {
+        assert_eq!(rt; q.advice(states, 1), advice);
+        for (unit, high, low) in [(2, 1, 1), (10, 3, 7), (1000, 50, 999), (2503, 0, 2502)] {
+            let mut words = Vec::new(rt.alloc());
+            for (&state, digit) in states.iter().zip(high..) {
+                let digits = q.size().wrapping_mul(digit).wrapping_add(u64::from(state));
+                words.push(u32::try_from(digits.wrapping_mul(unit).wrapping_add(low))?)?;
+            }
+            assert_eq!(rt; q.advice(&words, unit), advice);
         }
-        assert_eq!(rt; q.advice(words, unit), advice);
     }
     Ok(())
 }
@@ -393,9 +382,7 @@ fn advice_is_that_of_the_states_read(rt: HostRuntime) -> Result<(), Fail> {
         (&[66, 52, 32], Advice::Settled),
     ];
     let t = threshold(3, 0, 0, 7)?;
-    for (states, advice) in thresholds {
-        advises(&rt, &t, states, advice)?;
-    }
+    advises(&rt, &t, &thresholds)?;
     let remainders: [(&[u32], Advice); 6] = [
         (&[4, 1], Advice::Lost),
         (&[0, 7, 2], Advice::Meet(1, 2)),
@@ -405,9 +392,7 @@ fn advice_is_that_of_the_states_read(rt: HostRuntime) -> Result<(), Fail> {
         (&[1, 6, 1], Advice::Settled),
     ];
     let r = remainder(1, 2, -1, 3, 1)?;
-    for (states, advice) in remainders {
-        advises(&rt, &r, states, advice)?;
-    }
+    advises(&rt, &r, &remainders)?;
     let presences: [(&[u32], Advice); 6] = [
         (&[0], Advice::Settled),
         (&[1], Advice::Settled),
@@ -416,9 +401,7 @@ fn advice_is_that_of_the_states_read(rt: HostRuntime) -> Result<(), Fail> {
         (&[1, 0], Advice::Meet(0, 1)),
         (&[0, 0, 0, 1], Advice::Meet(3, 0)),
     ];
-    for (states, advice) in presences {
-        advises(&rt, &A, states, advice)?;
-    }
+    advises(&rt, &A, &presences)?;
     let pairs: [(&[u32], Advice); 6] = [
         (&[2, 14], Advice::Meet(1, 0)),
         (&[31, 19], Advice::Meet(0, 1)),
@@ -429,10 +412,8 @@ fn advice_is_that_of_the_states_read(rt: HostRuntime) -> Result<(), Fail> {
     ];
     let ab = both(A, B, 8);
     let lanes = Compiled::new(&[any(1), any(2), Lane::Remainder(r)], 0)?;
-    for (states, advice) in pairs {
-        advises(&rt, &both(ab, r, 8), states, advice)?;
-        advises(&rt, &lanes, states, advice)?;
-    }
+    advises(&rt, &both(ab, r, 8), &pairs)?;
+    advises(&rt, &lanes, &pairs)?;
     Ok(())
 }
 
@@ -476,8 +457,8 @@ fn both_asks_two_at_once(rt: HostRuntime) -> Result<(), Fail> {
         (0xf1, [true, false, false, false]),
     ] {
         let q = both(A, B, rule);
-        for state in 0..4 {
-            assert_eq!(rt; q.answer(state), answers[state as usize]);
+        for (state, answer) in (0..).zip(answers) {
+            assert_eq!(rt; q.answer(state), answer);
         }
         settles(&rt, &q, b"cab", 3, &[3, 3, 3], answers[3])?;
     }
@@ -486,7 +467,7 @@ fn both_asks_two_at_once(rt: HostRuntime) -> Result<(), Fail> {
     let q = both(both(t, r, 8), both(A, B, 6), 14);
     let starts = [2286, 1721, 1720, 1688, 1688, 1688, 1688, 1688];
     replies(&rt, &q, 'B', 3264, 6, starts, b"yynnnnnn");
-    let rows: [(&[u8], usize, &[u32], bool); 4] = [
+    let rows: [LoadRow; 4] = [
         (b"aab", 3, &[2863, 1591, 1591], true),
         (b"aaab", 6, &[3211, 1539, 1731, 1539], false),
         (b"ccb", 3, &[1689, 1585, 1585], true),
@@ -495,9 +476,9 @@ fn both_asks_two_at_once(rt: HostRuntime) -> Result<(), Fail> {
     for (load, meetings, left, answer) in rows {
         settles(&rt, &q, load, meetings, left, answer)?;
     }
+    let q = both(r, t, 8);
     for left in 0..12 {
         for right in 0..68 {
-            let q = both(r, t, 8);
             assert_eq!(rt; q.number(left, right), Some(left * 68 + right));
             assert_eq!(rt; q.halves(left * 68 + right), Some((left, right)));
             assert_eq!(rt; q.number(left, 68 + right), None);
@@ -544,7 +525,7 @@ fn compiled_questions_answer_by_their_table(rt: HostRuntime) -> Result<(), Fail>
     let a_and_not_b = Compiled::new(&[any(1), any(2)], 2)?;
     let starts = [2, 1, 0, 0, 0, 0, 0, 0];
     replies(&rt, &a_and_not_b, 'C', 4, 2, starts, b"ynnnnnnn");
-    let rows: [(&[u8], usize, &[u32], bool); 4] = [
+    let rows: [LoadRow; 4] = [
         (b"ab", 1, &[3, 3], false),
         (b"ca", 1, &[2, 2], true),
         (b"cba", 3, &[3, 3, 3], false),
@@ -560,7 +541,7 @@ fn compiled_questions_answer_by_their_table(rt: HostRuntime) -> Result<(), Fail>
     let mixed = Compiled::new(&lanes, 0b1111_1000)?;
     let starts = [1142, 860, 860, 844, 844, 844, 844, 845];
     replies(&rt, &mixed, 'C', 1632, 5, starts, b"ynnnnnny");
-    let rows: [(&[u8], usize, &[u32], bool); 6] = [
+    let rows: [LoadRow; 6] = [
         (b"aa", 1, &[1436, 792], false),
         (b"aab", 3, &[1430, 794, 794], true),
         (b"aaaa", 6, &[1598, 770, 866, 1058], false),
@@ -593,7 +574,7 @@ fn lanes_and_tables_that_are_refused(rt: HostRuntime) -> Result<(), Fail> {
     let seventh = Some(Refusal::TooManyAtoms.at(6));
     let states = Some(Refusal::TooManyStates.at(2));
     let bits = Some(Refusal::NumberRange.at(0));
-    for (large, lanes, table, fault) in [
+    for (large, count, table, fault) in [
         (false, 0, 0, none),
         (true, 0, u64::MAX, none),
         (false, 7, 0, seventh),
@@ -613,9 +594,9 @@ fn lanes_and_tables_that_are_refused(rt: HostRuntime) -> Result<(), Fail> {
         (false, 5, u64::from(u32::MAX), None),
         (false, 6, u64::MAX, None),
     ] {
-        let all = [if large { t } else { any(1) }; 7];
-        assert!(rt; lanes <= 7);
-        assert_eq!(rt; Compiled::new(&all[0..lanes], table).err(), fault);
+        let lane = if large { t } else { any(1) };
+        let lanes = vec![in rt.alloc(); lane; count]?;
+        assert_eq!(rt; Compiled::new(&lanes, table).err(), fault);
     }
     // 8,004 × 8,004 × 4 × 16 is 4,100,097,024, and with 17 it is 4,356,353,088.
     for (modulus, fault) in [(16, None), (17, states)] {
@@ -636,9 +617,7 @@ fn lanes_are_taken_apart_and_joined(rt: HostRuntime) -> Result<(), Fail> {
     let q = Compiled::new(&[t, r, any(1)], 128)?;
     assert_eq!(rt; q.table(), 128);
     assert_eq!(rt; q.size(), 192);
-    let lanes = q.lanes();
-    assert!(rt; lanes.len() == 3);
-    assert!(rt; lanes[0].kind() == 'T' && lanes[1].kind() == 'R' && lanes[2].kind() == 'P');
+    assert!(rt; q.lanes().iter().map(|lane| lane.kind()).eq(['T', 'R', 'P']));
     for first in 0..12 {
         for second in 0..8 {
             for third in 0..2 {

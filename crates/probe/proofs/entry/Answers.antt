@@ -1,11 +1,11 @@
--- What the test over the whole table says at the entry that is read. Assumes nothing.
-use Rattle.std.proofs.Common.{eqb, ap, ◌∙◌, arith}
-use Rattle.std.proofs.lemmas.Bool.{eqb-true}
+-- The entry that is read is the class of its place. Assumes nothing.
+use Rattle.std.proofs.Common.{ap, ◌∙◌, get_or, arith}
+use Rattle.std.proofs.lemmas.List.FromFn.{get_or-map-range_with_len}
+use Rattle.std.proofs.lemmas.Slice.Eq.{bytes_eq-Decides}
 use Rattle.probe.specs.Classes.{class_of}
-use Rattle.probe.proofs.Table.{at}
 use Rattle.probe.proofs.entry.Goals as goal
 
 pub returns : goal.returns
 returns c =
-    eqb-true _ _ (at (λ byte entry. eqb entry (class_of byte)) c.args.table.now c.requires c.from.result (omega arith))
-    ∙ ap class_of c.from.ensures
+    ap (λ table. get_or table c.from.result 0) ((bytes_eq-Decides _ _).0 c.requires)
+    ∙ get_or-map-range_with_len class_of 0 256 c.from.result c.args.byte 0 (omega arith) (omega arith)

@@ -1,9 +1,15 @@
--- So many advised meetings have been made. Assumes nothing.
-use Rattle.std.proofs.Common.{◌≡◌}
+-- So many advised meetings have been made, of those that may be. Assumes nothing.
+use Rattle.std.proofs.Common.{◌≡◌, ◌-◌, ◌≤◌}
 use Rattle.settling.specs.Following.{AdvisedMeetings}
 use Rattle.settling.proofs.settle.Given as goal
 
-abbrev pub invariant-loop-meetings : goal.invariant-loop-meetings
-invariant-loop-meetings g l =
-    (l.load.tags ≡ l.initial.load.tags)
-    × AdvisedMeetings (g.Q.Question.meaning l.question).protocol l.initial.load.tags l.initial.words l.meetings l.words
+abbrev pub invariant-loop-advice : goal.invariant-loop-advice
+invariant-loop-advice g l =
+    record {
+      same_tags : l.load.tags ≡ l.initial.load.tags;
+      few : l.meetings ≤ l.most;
+      followed : AdvisedMeetings (g.Q.Question.meaning l.question).protocol l.initial.load.tags l.initial.words l.meetings l.words;
+    }
+
+abbrev pub decreases-loop-advice : goal.decreases-loop-advice
+decreases-loop-advice g l = l.most - l.meetings

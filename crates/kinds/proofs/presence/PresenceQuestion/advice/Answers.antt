@@ -1,31 +1,39 @@
 -- The lowest tag in state 1 and the lowest in state 0, where there are both. Assumes nothing.
-use Rattle.std.proofs.Common.{◌≡◌, ℕ, true, false, eqb, List, length, Some, None, Option, sym, refl, ap, ◌∙◌}
+use Rattle.std.proofs.Common.{◌≡◌, ℕ, Bool, true, false, eqb, List, length, Option, sym, refl, ap, ◌∙◌, rules}
 use Rattle.protocol.specs.Places.{paired}
 use Rattle.protocol.specs.Presence.{presence_protocol}
 use Rattle.protocol.specs.Protocols.{allowed_unit, advice_reply}
 use Rattle.question.specs.Tested.{lowest_read}
+use Rattle.question.specs.declared.digit.Digit.{Digit}
 use Rattle.question.proofs.Replies.{advice_read, nonempty}
 use Rattle.kinds.proofs.presence.PresenceQuestion.advice.Goals as goal
 
+-- the tags in a state
+abbrev holds : ℕ → ℕ → ℕ → Bool
+holds held place state = eqb state held
+
 -- the advice, by the two searches
-by_two : (mask : ℕ) (words : List ℕ) (unit u s : ℕ) (a b : Option ℕ) → true ≡ allowed_unit unit 2 → (u ≡ unit) × (s ≡ 2) → false ≡ eqb (length words) 0
-    → a ≡ lowest_read (λ _ state. eqb state 1) u s words → b ≡ lowest_read (λ _ state. eqb state 0) u s words
-    → advice_reply (presence_protocol mask) words unit ≡ paired a b
-by_two mask words unit u s a b ok same some e f =
-    advice_read (presence_protocol mask) words unit 2 u s refl ok same.0 same.1 (nonempty words some)
-    ∙ ap (λ o. paired o (lowest_read (λ _ state. eqb state 0) u s words)) (sym e)
-    ∙ ap (paired a) (sym f)
+by_two : (mask : ℕ) (words : List ℕ) (unit : ℕ) (d : Digit) (a b : Option ℕ) → true ≡ allowed_unit unit 2 → (d.unit ≡ unit) × (d.size ≡ 2) → false ≡ eqb (length words) 0
+    → a ≡ lowest_read (holds 1) d.unit d.size words → b ≡ lowest_read (holds 0) d.unit d.size words
+    → paired a b ≡ advice_reply (presence_protocol mask) words unit
+by_two mask words unit d a b ok same some e f =
+    ap (λ o. paired o b) e
+    ∙ ap (paired (lowest_read (holds 1) d.unit d.size words)) f
+    ∙ sym (advice_read (presence_protocol mask) words unit 2 d.unit d.size refl ok same.0 same.1 (nonempty words some))
+
+pub returns-in_default-lowest : goal.returns-in_default-lowest
+returns-in_default-lowest c =
+    by_two c.args.self.now.mask c.args.words.now c.args.unit c.in-Some.digit _ _ c.in-Some.ensures.test c.in-Some.ensures.some c.if-is_empty.ensures
+    (c.in_default-lowest.ensures.lowest (holds 1) (λ place state answer p s given. search rules)) refl
 
 pub returns-in-Some-lowest-2 : goal.returns-in-Some-lowest-2
 returns-in-Some-lowest-2 c =
-    let d = c.in-Some.digit in
-    let made = c.in-Some.ensures in
-    sym (by_two c.args.self.now.mask c.args.words.now c.args.unit d.unit d.size (Some c.in-Some-lowest.first) (Some c.in-Some-lowest-2.second)
-    made.test made.some c.if-is_empty.ensures c.in-Some-lowest.ensures c.in-Some-lowest-2.ensures)
+    by_two c.args.self.now.mask c.args.words.now c.args.unit c.in-Some.digit _ _ c.in-Some.ensures.test c.in-Some.ensures.some c.if-is_empty.ensures
+    (c.in-Some-lowest.ensures.lowest (holds 1) (λ place state answer p s given. search rules))
+    (c.in-Some-lowest-2.ensures.lowest (holds 0) (λ place state answer p s given. search rules))
 
 pub returns-in-None : goal.returns-in-None
 returns-in-None c =
-    let d = c.in-Some.digit in
-    let made = c.in-Some.ensures in
-    sym (by_two c.args.self.now.mask c.args.words.now c.args.unit d.unit d.size (Some c.in-Some-lowest.first) None
-    made.test made.some c.if-is_empty.ensures c.in-Some-lowest.ensures c.in-None.ensures)
+    by_two c.args.self.now.mask c.args.words.now c.args.unit c.in-Some.digit _ _ c.in-Some.ensures.test c.in-Some.ensures.some c.if-is_empty.ensures
+    (c.in-Some-lowest.ensures.lowest (holds 1) (λ place state answer p s given. search rules))
+    (c.in-None.ensures.lowest (holds 0) (λ place state answer p s given. search rules))

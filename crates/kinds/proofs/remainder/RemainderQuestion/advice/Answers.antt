@@ -1,43 +1,21 @@
--- What each search finds is what the rules name. Assumes nothing.
-use Rattle.std.proofs.Common.{◌<◌, length, Some, None, sym, rules}
-use Rattle.protocol.specs.Sums.{lead_part}
-use Rattle.kinds.proofs.Led.{found_within}
-use Rattle.kinds.proofs.RemainderAdvice.{merges, corrects}
+-- What the two rules find is what the definition's rules name. Assumes nothing.
+use Rattle.std.proofs.Common.{ℕ, ◌/◌, eqb, refl, ◌∙◌, rules}
+use Rattle.protocol.specs.Places.{state_at}
+use Rattle.protocol.specs.Remainder.{fields_of, partner_rules, remainder_protocol}
+use Rattle.protocol.specs.Sums.{lead_part, bit_part, differs}
+use Rattle.kinds.specs.LeaderStates.{states_of}
+use Rattle.kinds.proofs.Led.{no_rule, one_more, led_reply}
 use Rattle.kinds.proofs.remainder.RemainderQuestion.advice.Goals as goal
 
-pub returns-in-Some-lowest-2 : goal.returns-in-Some-lowest-2
-returns-in-Some-lowest-2 c =
+pub returns : goal.returns
+returns c =
     let q = c.args.self.now in
-    let d = c.in-Some.digit in
-    let made = c.in-Some.ensures in
-    sym (merges q.coefficients q.modulus q.residue c.args.words.now c.args.unit c.size.result d.unit d.size c.in-Some-lowest.leader
-    c.size.ensures made.test made.some c.in-Some-lowest.ensures c.in-Some-lowest-2.partner c.in-Some-lowest-2.ensures)
-
-pub offset_bounds-words-leader : goal.offset_bounds-words-leader
-offset_bounds-words-leader c =
-    let d = c.in-Some.digit in
-    let h : c.in-Some-lowest.leader < length c.args.words.now = found_within (λ _. lead_part) d.unit d.size c.args.words.now c.in-Some-lowest.leader c.in-Some-lowest.ensures in
-    search rules
-
-pub bounds-words-leader : goal.bounds-words-leader
-bounds-words-leader c =
-    let d = c.in-Some.digit in
-    found_within (λ _. lead_part) d.unit d.size c.args.words.now c.in-Some-lowest.leader c.in-Some-lowest.ensures
-
-pub returns-in-Some-lowest-3 : goal.returns-in-Some-lowest-3
-returns-in-Some-lowest-3 c =
-    let q = c.args.self.now in
-    let d = c.in-Some.digit in
-    let made = c.in-Some.ensures in
-    sym (corrects q.coefficients q.modulus q.residue c.args.words.now c.args.unit c.size.result d.unit d.size c.in-Some-lowest.leader
-    c.size.ensures made.test made.some c.in-Some-lowest.ensures c.in_default-lowest-2.ensures c.of.result c.of.ensures
-    (Some c.in-Some-lowest-3.partner) c.in-Some-lowest-3.ensures)
-
-pub returns-in-None : goal.returns-in-None
-returns-in-None c =
-    let q = c.args.self.now in
-    let d = c.in-Some.digit in
-    let made = c.in-Some.ensures in
-    sym (corrects q.coefficients q.modulus q.residue c.args.words.now c.args.unit c.size.result d.unit d.size c.in-Some-lowest.leader
-    c.size.ensures made.test made.some c.in-Some-lowest.ensures c.in_default-lowest-2.ensures c.of.result c.of.ensures
-    None c.in-None.ensures)
+    let l = c.in-Some.leader in
+    let found = c.in-Some.ensures.some in
+    let merge = lead_part in
+    let correct = λ (state : ℕ). differs (eqb (state_at (states_of l) l.place / 4) q.residue) (bit_part state) in
+    let one = one_more l c.rule.result merge (no_rule l found.2) c.rule.ensures.same (c.rule.ensures.found merge (λ _ state answer p r given. search rules)) in
+    let two = one_more l c.rule-2.result correct one c.rule-2.ensures.same (c.rule-2.ensures.found correct (λ _ state answer p r given. search rules)) in
+    c.advice.ensures
+    ∙ led_reply l (remainder_protocol q.coefficients q.modulus q.residue) (partner_rules q.residue (λ place. fields_of (state_at (states_of l) place)))
+    c.args.words.now c.args.unit c.size.result c.rule-2.result refl refl c.size.ensures found.0 found.1 two

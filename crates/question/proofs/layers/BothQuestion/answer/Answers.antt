@@ -1,6 +1,5 @@
 -- The answer is the rule's, for the answers of the halves. Assumes nothing.
-use Rattle.std.proofs.Common.{◌+◌, ◌*◌, sym, ap, ◌∙◌}
-use Rattle.protocol.specs.Protocols.{answer_reply}
+use Rattle.std.proofs.Common.{◌+◌, ◌*◌, sym, ◌∙◌}
 use Rattle.protocol.specs.Joining.{bit_at, one_if}
 use Rattle.question.proofs.Replies.{answer_joined}
 use Rattle.question.proofs.layers.BothQuestion.answer.Goals as goal
@@ -12,9 +11,4 @@ returns g c =
     let r = (g.R.Question.meaning b.right).protocol in
     let is = answer_joined (λ x. bit_at b.rule (2 * one_if x.0 + one_if x.1)) l r c.args.state c.in-Some.left c.in-Some.right
     (sym c.halves.ensures.value ∙ c.in-Some.is) in
-    c.bit_at.ensures
-    ∙ ap (λ n. bit_at n c.index_of-answers.result) c.from.ensures
-    ∙ ap (bit_at b.rule) c.index_of-answers.ensures
-    ∙ ap (λ x. bit_at b.rule (2 * one_if x + one_if c.answer-2.result)) c.answer.ensures
-    ∙ ap (λ x. bit_at b.rule (2 * one_if (answer_reply l.tables c.in-Some.left) + one_if x)) c.answer-2.ensures
-    ∙ sym is
+    rw (c.bit_at.ensures, c.from.ensures, c.index_of-answers.ensures, c.answer.ensures, c.answer-2.ensures) (sym is)
