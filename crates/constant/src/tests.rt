@@ -1,6 +1,9 @@
-// A constant alone and under every layer, beside itself and beside a question of two states.
+// A constant alone and under every layer, beside itself and beside a question of two states; and a search by a test of this crate's own.
+ghost use Rattle.std.specs.Prelude.{◌≡◌, ◌&&◌, ◌==◌, nat_le};
+
 use super::*;
 use kinds::Presence;
+use question::digit::{Digit, Test};
 use question::layers::{Both, Not};
 use std::process::Abort;
 
@@ -172,4 +175,39 @@ fn both_of_both(rt: HostRuntime) {
     has_one_state(&rt, &both(both(YES, NO, 4), both(NO, NO, 14), 8), false);
     let presence = Presence { mask: 1 };
     has_two_states(&rt, &both(both(YES, NO, 4), both(NO, presence, 2), 8));
+}
+
+// The tags in a state, from a place on.
+#[derive(Clone, Copy)]
+struct HeldFrom {
+    place: usize,
+    state: u32,
+}
+
+impl Test for HeldFrom {
+    ghost passes = { λ t place state. nat_le t.place place && (state == t.state) };
+
+    fn passes_at(&self, place: usize, state: u32) -> bool {
+        self.place <= place && state == self.state
+    }
+}
+
+// Words of the states 4, 1, 0, 1 and 4, of five, by unit 3.
+#[test]
+fn the_lowest_place_that_passes_a_test(rt: HostRuntime) {
+    let found = Digit::new(3, 5).map(|digit| {
+        let lowest = |place, state| digit.lowest(&[13, 4, 0, 19, 28], &HeldFrom { place, state });
+        [
+            lowest(0, 4),
+            lowest(0, 1),
+            lowest(2, 1),
+            lowest(0, 0),
+            lowest(4, 1),
+            lowest(0, 2),
+        ]
+    });
+    assert_eq!(rt;
+        found,
+        Some([Some(0), Some(1), Some(3), Some(2), None, None])
+    );
 }

@@ -30,7 +30,7 @@ impl<'a> Leader<'a> {
         ensures none { IfNone result (allowed_unit unit size ≡ true → leading (map (state_read unit size) words.now) ≡ None) }
     {
         let digit = Digit::new(unit, size)?;
-        let place = digit.lowest(words, |_, state| leads(state))?;
+        let place = digit.lowest_by(words, |_, state| leads(state))?;
         Some(Leader {
             words,
             digit,
@@ -53,7 +53,7 @@ impl<'a> Leader<'a> {
         ensures found { (test : ℕ → Bool) → AnswersAs (λ _. F.post fits) (λ _. test) → result.partner ≡ option_or self.entry.partner (partner_by test (states_of self.entry) self.entry.place) }
     {
         if self.partner.is_none() {
-            self.partner = self.digit.lowest(
+            self.partner = self.digit.lowest_by(
                 self.words,
                 |place, state| place != self.place && fits(state),
             );

@@ -57,10 +57,10 @@ impl Question for Presence {
         if words.is_empty() {
             return Advice::Lost;
         }
-        let Some(first) = digit.lowest(words, |_, state| state == 1) else {
+        let Some(first) = digit.lowest_by(words, |_, state| state == 1) else {
             return Advice::Settled;
         };
-        match digit.lowest(words, |_, state| state == 0) {
+        match digit.lowest_by(words, |_, state| state == 0) {
             Some(second) => Advice::Meet(first, second),
             None => Advice::Settled,
         }

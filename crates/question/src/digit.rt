@@ -13,6 +13,14 @@ pub struct Digit {
     ghost fits: { (0 < unit) × (0 < size) × (unit * size ≤ 2 ^ 32) },
 }
 
+// A test of a tag by its place and its state.
+pub trait Test {
+    ghost passes: { Self → ℕ → ℕ → Bool };
+
+    fn passes_at(&self, place: usize, state: u32) -> bool
+        ensures { result ≡ passes self.now place state };
+}
+
 impl Digit {
     // None where the unit is not allowed for so many states.
     pub fn new(unit: u64, size: u64) -> Option<Digit>
@@ -33,8 +41,16 @@ impl Digit {
         (u64::from(word) / self.unit % self.size) as u32
     }
 
-    // The lowest place whose tag passes, by its place and its state.
-    pub fn lowest<F: Fn(usize, u32) -> bool>(&self, words: &[u32], passes: F) -> Option<usize>
+    // The lowest place whose tag passes.
+    pub fn lowest<T: Test>(&self, words: &[u32], test: &T) -> Option<usize>
+        ensures { result ≡ lowest_read (T.passes test.now) self.now.unit self.now.size words.now }
+    {
+        self.lowest_by(words, |place, state| test.passes_at(place, state))
+    }
+
+    // The same by a closure over the place and the state, which has to be one that may be called on any: no ghost field can say that of a
+    // closure, and so no type of tests can.
+    pub fn lowest_by<F: Fn(usize, u32) -> bool>(&self, words: &[u32], passes: F) -> Option<usize>
         requires { F.IsAlwaysCallable passes }
         ensures lowest { (test : ℕ → ℕ → Bool) → AnswersAs (F.post passes) test → result ≡ lowest_read test self.now.unit self.now.size words.now }
         ensures within { IfSome result (λ place. place < length words.now) }

@@ -5,10 +5,10 @@ use Rattle.kinds.proofs.leader.Leader.find.Goals as goal
 
 pub returns-in_err-place-clause-none : goal.returns-in_err-place-clause-none
 returns-in_err-place-clause-none c =
-    let found = c.lowest.ensures.lowest (λ _. lead_part) (λ place state answer p s given. search rules) in
+    let found = c.lowest_by.ensures.lowest (λ _. lead_part) (λ place state answer p s given. search rules) in
     search rules
 
 pub invariant_of-result-clause-lowest : goal.invariant_of-result-clause-lowest
 invariant_of-result-clause-lowest c =
-    let found = c.lowest.ensures.lowest (λ _. lead_part) (λ place state answer p s given. search rules) in
+    let found = c.lowest_by.ensures.lowest (λ _. lead_part) (λ place state answer p s given. search rules) in
     search rules

@@ -8,7 +8,7 @@ pub returns-clause-found : goal.returns-clause-found
 returns-clause-found g c test answers =
     elim c.if-is_none.branch [
       | then-is_none w ↦
-          let found = w.lowest-self.ensures.lowest (λ place state. other c.args.self.place (λ _. test state) place) (λ place state answer p s given. search rules) in
+          let found = w.lowest_by-self.ensures.lowest (λ place state. other c.args.self.place (λ _. test state) place) (λ place state answer p s given. search rules) in
           search rules
       | else-is_none w ↦ search rules
     ]

@@ -21,19 +21,19 @@ by_two mask words unit d a b ok same some e f =
     ∙ ap (paired (lowest_read (holds 1) d.unit d.size words)) f
     ∙ sym (advice_read (presence_protocol mask) words unit 2 d.unit d.size refl ok same.0 same.1 (nonempty words some))
 
-pub returns-in_default-lowest : goal.returns-in_default-lowest
-returns-in_default-lowest c =
+pub returns-in_default-lowest_by : goal.returns-in_default-lowest_by
+returns-in_default-lowest_by c =
     by_two c.args.self.now.mask c.args.words.now c.args.unit c.in-Some.digit _ _ c.in-Some.ensures.test c.in-Some.ensures.some c.if-is_empty.ensures
-    (c.in_default-lowest.ensures.lowest (holds 1) (λ place state answer p s given. search rules)) refl
+    (c.in_default-lowest_by.ensures.lowest (holds 1) (λ place state answer p s given. search rules)) refl
 
-pub returns-in-Some-lowest-2 : goal.returns-in-Some-lowest-2
-returns-in-Some-lowest-2 c =
+pub returns-in-Some-lowest_by-2 : goal.returns-in-Some-lowest_by-2
+returns-in-Some-lowest_by-2 c =
     by_two c.args.self.now.mask c.args.words.now c.args.unit c.in-Some.digit _ _ c.in-Some.ensures.test c.in-Some.ensures.some c.if-is_empty.ensures
-    (c.in-Some-lowest.ensures.lowest (holds 1) (λ place state answer p s given. search rules))
-    (c.in-Some-lowest-2.ensures.lowest (holds 0) (λ place state answer p s given. search rules))
+    (c.in-Some-lowest_by.ensures.lowest (holds 1) (λ place state answer p s given. search rules))
+    (c.in-Some-lowest_by-2.ensures.lowest (holds 0) (λ place state answer p s given. search rules))
 
 pub returns-in-None : goal.returns-in-None
 returns-in-None c =
     by_two c.args.self.now.mask c.args.words.now c.args.unit c.in-Some.digit _ _ c.in-Some.ensures.test c.in-Some.ensures.some c.if-is_empty.ensures
-    (c.in-Some-lowest.ensures.lowest (holds 1) (λ place state answer p s given. search rules))
+    (c.in-Some-lowest_by.ensures.lowest (holds 1) (λ place state answer p s given. search rules))
     (c.in-None.ensures.lowest (holds 0) (λ place state answer p s given. search rules))

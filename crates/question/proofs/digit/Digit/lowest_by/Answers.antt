@@ -2,7 +2,7 @@
 use Rattle.std.proofs.Common.{Some, None, below_more, arith}
 use Rattle.std.proofs.lemmas.Grind.{common_steps}
 use Rattle.question.proofs.Tested.{lowest_read_is}
-use Rattle.question.proofs.digit.Digit.lowest.Goals as goal
+use Rattle.question.proofs.digit.Digit.lowest_by.Goals as goal
 
 pub returns-then-passes-clause-lowest : goal.returns-then-passes-clause-lowest
 returns-then-passes-clause-lowest g c test answers =

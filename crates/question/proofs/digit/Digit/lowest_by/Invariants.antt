@@ -2,7 +2,7 @@
 use Rattle.std.proofs.Common.{◌≡◌, ℕ, ◌<◌, Bool, false, get_or}
 use Rattle.protocol.specs.Protocols.{state_read}
 use Rattle.question.specs.Tested.{AnswersAs}
-use Rattle.question.proofs.digit.Digit.lowest.Given as goal
+use Rattle.question.proofs.digit.Digit.lowest_by.Given as goal
 
 abbrev pub invariant-loop-place : goal.invariant-loop-place
 invariant-loop-place g l =
