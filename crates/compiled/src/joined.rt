@@ -2,6 +2,7 @@
 ghost use Rattle.std.specs.Prelude.{◌≡◌, ℕ, ◌^◌, ◌<◌, ◌≤◌, Bool, length, cond, nat_lt, Some, None, IfSome};
 ghost use Rattle.protocol.specs.Protocols.{start_reply, meet_reply, advice_reply};
 ghost use Rattle.protocol.specs.Joining.{answers_number};
+ghost use Rattle.question.specs.Halves.{halves_reply, number_reply as pair_number};
 ghost use Rattle.compiled.specs.Lanes.{lane_meaning, lanes_of, lane_state_reply, number_reply};
 
 use super::lane::Lane;
@@ -31,6 +32,20 @@ fn sizes(lane: &Lane, rest: &[Lane]) -> Sizes
     }
 }
 
+// The number of the first lane and that of the rest, in one.
+fn join(lane: &Lane, rest: &[Lane], first: u32, others: u32) -> Option<u32>
+    ensures { result ≡ pair_number (lane_meaning lane.now).protocol.tables.size (lanes_of rest.now).tables.size first others }
+{
+    sizes(lane, rest).number(first, others)
+}
+
+// The number of the first lane and that of the rest, in a state; none for an unknown one.
+fn split(lane: &Lane, rest: &[Lane], state: u32) -> Option<(u32, u32)>
+    ensures { result ≡ halves_reply (lane_meaning lane.now).protocol.tables.size (lanes_of rest.now).tables.size state }
+{
+    sizes(lane, rest).halves(state)
+}
+
 // The advised meetings that lanes need, for each tag but one: the sum, or 0 where the size is. An `if` of its own, as in `Both::weight`.
 pub(crate) fn weight_of(lanes: &[Lane]) -> u64
     ensures { result ≡ (lanes_of lanes.now).weight }
@@ -47,9 +62,9 @@ pub(crate) fn start_of(lanes: &[Lane], symbol: Symbol) -> u32
 {
     match lanes {
         [] => 0,
-        [lane, rest @ ..] => sizes(lane, rest)
-            .number(lane.start(symbol), start_of(rest, symbol))
-            .unwrap_or(0),
+        [lane, rest @ ..] => {
+            join(lane, rest, lane.start(symbol), start_of(rest, symbol)).unwrap_or(0)
+        }
     }
 }
 
@@ -63,7 +78,7 @@ pub(crate) fn answers_of(lanes: &[Lane], state: u32) -> Option<u32>
     match lanes {
         [] => (state == 0).then_some(0),
         [lane, rest @ ..] => {
-            let (first, others) = sizes(lane, rest).halves(state)?;
+            let (first, others) = split(lane, rest, state)?;
             let answers = answers_of(rest, others)?;
             Some(u32::from(lane.answer(first)) + 2 * answers)
         }
@@ -91,8 +106,12 @@ pub(crate) fn meet_of(lanes: &[Lane], first: u32, second: u32) -> (u32, u32)
 pub(crate) fn advice_of(lanes: &[Lane], words: &[u32], unit: u64) -> Advice
     ensures { result ≡ advice_reply (lanes_of lanes.now) words.now unit }
 {
+    // Before any size is asked for.
+    if words.is_empty() {
+        return Advice::Lost;
+    }
     match lanes {
-        [] if words.is_empty() || !allowed(unit, 1) => Advice::Lost,
+        [] if !allowed(unit, 1) => Advice::Lost,
         [] => Advice::Settled,
         [lane, rest @ ..] => sizes(lane, rest).advice(
             words,
@@ -110,7 +129,7 @@ pub(crate) fn lane_state_of(lanes: &[Lane], place: usize, state: u32) -> Option<
     ensures { result ≡ lane_state_reply lanes.now place state }
 {
     let (lane, rest) = lanes.split_first()?;
-    let (first, others) = sizes(lane, rest).halves(state)?;
+    let (first, others) = split(lane, rest, state)?;
     if place == 0 {
         Some(first)
     } else {
@@ -125,7 +144,8 @@ pub(crate) fn number_of(lanes: &[Lane], numbers: &[u32]) -> Option<u32>
     match (lanes, numbers) {
         ([], []) => Some(0),
         ([lane, rest @ ..], [first, others @ ..]) => {
-            sizes(lane, rest).number(*first, number_of(rest, others)?)
+            // The rest first: where it has no number, no size is asked for.
+            join(lane, rest, *first, number_of(rest, others)?)
         }
         _ => None,
     }

@@ -140,6 +140,10 @@ impl<L: Question, R: Question> Question for Both<L, R> {
     }
 
     fn advice(&self, words: &[u32], unit: u64) -> Advice {
+        // Before any size is asked for: in a pile of these that is one question for each below.
+        if words.is_empty() {
+            return Advice::Lost;
+        }
         self.sizes().advice(
             words,
             unit,

@@ -1,5 +1,5 @@
 -- The answers of the first lane and of the rest. Assumes nothing.
-use Rattle.std.proofs.Common.{◌≡◌, ◌∷◌, Some, sym, ap, ◌∙◌, rules}
+use Rattle.std.proofs.Common.{◌≡◌, ◌∷◌, Some, sym, ◌∙◌, rules}
 use Rattle.question.specs.Halves.{halves_reply}
 use Rattle.compiled.specs.Lanes.{lane_meaning, lanes_of}
 use Rattle.compiled.proofs.Lanes.{tail, first_and_rest, answers_joined}
@@ -13,7 +13,5 @@ returns-in_ok-answers-in-len1-up-clause-value t c =
     let it = c.in_ok-first-in-len1-up in
     let shape : ls ≡ lane ∷ tail ls = first_and_rest ls lane (search rules) c.lane-item.is in
     let halved : halves_reply (lane_meaning lane).protocol.tables.size (lanes_of (tail ls)).tables.size state ≡ Some (it.first, it.others) =
-    ap (λ n. halves_reply n (lanes_of (tail ls)).tables.size state) (sym c.sizes.ensures.left)
-    ∙ ap (λ n. halves_reply c.sizes.result.left n state) (sym c.sizes.ensures.right)
-    ∙ sym c.halves.ensures.value ∙ it.was in
+    sym c.split.ensures ∙ it.was in
     rw shape (answers_joined lane (tail ls) state it.first it.others c.in_ok-answers-in-len1-up.answers c.from.result halved (search rules) (sym c.in_ok-answers-in-len1-up.was ∙ c.answers_of.ensures.value))
