@@ -10,21 +10,29 @@ use probe::class;
 use reading::{Counts, Symbol};
 use std::alloc::{AllocError, Global};
 use std::fmt::Write;
-use std::io::{BufRead, BufReader};
+use std::io::{BufRead, BufReader, Read};
 
 mod lines;
 mod questions;
 
 fn main(rt: HostRuntime) -> anyhow::Result<()> {
-    run(&rt)
+    run(&rt, rt.stdin())
 }
 
-fn run(rt: &(impl Input + Print + AllocGlobal)) -> anyhow::Result<()> {
+// From the handle itself: what `rt.reader()` gives holds 8 KiB more, and is moved about on the stack.
+fn run<R: Read + Drop>(rt: &(impl Print + AllocGlobal), from: R) -> anyhow::Result<()> {
     let heap = rt.alloc();
-    let input = BufReader::new(heap, rt.reader())?;
+    let mut input = BufReader::new(heap, from)?;
+    let mut raw = Vec::new(heap);
     let mut readings = Vec::new(heap);
-    for (line_number, line) in (1..).zip(input.split(heap, b'\n')) {
-        let text = String::from_utf8_lossy(heap, &line?)?;
+    // Into one buffer: `split` makes one for each line, and blank lines then take half as long again. No input has so many lines: the bound is
+    // what shows that the loop ends.
+    for line_number in 1..u64::MAX {
+        raw.clear();
+        if input.read_until(b'\n', &mut raw)? == 0 {
+            break;
+        }
+        let text = String::from_utf8_lossy(heap, &raw)?;
         class_line(rt, line_number, &text, &mut readings)?;
     }
     println!(rt; "counts: {}", Counts::of(&readings))?;
