@@ -22,12 +22,12 @@ halves_facts lefts rights state h =
     (parts.0, parts.1, (div-lt_iff_lt-mul parts.1).1 below, mod-lt state parts.1, below, same.1)
 
 -- what two known halves of not too many fulfil
-number_facts : (lefts rights left right : ℕ) → lefts * rights ≤ 2 ^ 32 → left < lefts → right < rights
+pub number_facts : (lefts rights left right : ℕ) → lefts * rights ≤ 2 ^ 32 → left < lefts → right < rights
     → (bounded (lefts * rights) ≡ lefts * rights) × (joined rights left right < lefts * rights)
 number_facts lefts rights left right h l r =
     (cond-true (leb (lefts * rights) (2 ^ 32)) (lefts * rights) 0 (le-leb (lefts * rights) (2 ^ 32) h), digits_lt l r)
 
-number_undone : (lefts rights left right : ℕ) → lefts * rights ≤ 2 ^ 32 → left < lefts → right < rights
+pub number_undone : (lefts rights left right : ℕ) → lefts * rights ≤ 2 ^ 32 → left < lefts → right < rights
     → halves_reply lefts rights (joined rights left right) ≡ Some (left, right)
 number_undone lefts rights left right h l r =
     let it = number_facts lefts rights left right h l r in

@@ -23,11 +23,11 @@ use Rattle.settling.proofs.Stability.{advice_told, meeting_advised, stably_compu
 use Rattle.settling.proofs.Verdicts.{Fit, granted_ok, granted_err, open_facts, advise_facts, advise_grants}
 
 -- what granted calls say
-advise_told : {p : Protocol Bool} {tags : ℕ} {words : List ℕ} {a : Advice} {after : Phase} {left : List ℕ}
+pub advise_told : {p : Protocol Bool} {tags : ℕ} {words : List ℕ} {a : Advice} {after : Phase} {left : List ℕ}
     → Call p Advise (ready tags) words (advised a) after left → advise_verdict p.tables tags words ≡ Ok tt
 advise_told (advise_granted e) = e
 
-open_told : {p : Protocol Bool} {tags first second : ℕ} {words : List ℕ} {after : Phase} {left : List ℕ}
+pub open_told : {p : Protocol Bool} {tags first second : ℕ} {words : List ℕ} {after : Phase} {left : List ℕ}
     → Call p (Open first second) (ready tags) words done after left → open_verdict p.tables tags first second words ≡ Ok tt
 open_told (open_granted e) = e
 
@@ -58,14 +58,14 @@ module _ {p : Protocol Bool} {tags : ℕ} where
       (it.0, (let e = it.1 in omega arith), it.2)
 
   -- advised meetings are calls
-  meetings_calls : {words end : List ℕ} {k : ℕ} → AdvisedMeetings p tags words k end → (list : List (Request × Reply)) × Calls p (ready tags) words list (ready tags) end
+  pub meetings_calls : {words end : List ℕ} {k : ℕ} → AdvisedMeetings p tags words k end → (list : List (Request × Reply)) × Calls p (ready tags) words list (ready tags) end
   meetings_calls none = ([], calls.none)
   meetings_calls (meets one rest) =
       let more = meetings_calls rest in
       (_, call one.advice (call one.opening (call one.finishing more.1)))
 
   -- one meeting more, at the end
-  one_more : {words here left : List ℕ} {k : ℕ} → AdvisedMeetings p tags words k here → AdvisedMeeting p tags here left → AdvisedMeetings p tags words (suc k) left
+  pub one_more : {words here left : List ℕ} {k : ℕ} → AdvisedMeetings p tags words k here → AdvisedMeeting p tags here left → AdvisedMeetings p tags words (suc k) left
   one_more none one = meets one none
   one_more (meets first rest) one = meets first (one_more rest one)
 
@@ -90,7 +90,7 @@ module _ (p : Protocol Bool) (law : Lawful p) (tags : ℕ) where
       (meetings_fit rest)
 
   -- settled at the end, where the load was touched by calls only
-  ends_settled : {words here : List ℕ} {k : ℕ} → AdvisedMeetings p tags words k here
+  pub ends_settled : {words here : List ℕ} {k : ℕ} → AdvisedMeetings p tags words k here
       → ((left : List ℕ) → AdvisedMeeting p tags here left → k ≡ p.weight * (tags - 1))
       → {symbols : List Symbol} → TouchedByCalls p symbols (ready tags) words → IsSettled p here
   ends_settled {words} {here} {k} followed stop {symbols} touched =

@@ -48,7 +48,7 @@ reads_itself size (w ∷ ws) known =
     cc
 
 -- the advice on known words is that on the states
-advice_on_known : (p : Protocol Bool) → Lawful p → (tags : ℕ) (words : List ℕ) → 0 < tags → Fit p.tables tags words
+pub advice_on_known : (p : Protocol Bool) → Lawful p → (tags : ℕ) (words : List ℕ) → 0 < tags → Fit p.tables tags words
     → advice_reply p words 1 ≡ p.next words
 advice_on_known p law tags words some fit =
     let size = p.tables.size in

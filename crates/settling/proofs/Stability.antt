@@ -22,6 +22,10 @@ use Rattle.settling.proofs.Verdicts.{start_facts, open_facts, open_finishes, rea
 pub advice_told : {p : Protocol Bool} {before : Phase} {words : List ℕ} {a : Advice} {after : Phase} {left : List ℕ} → Call p Advise before words (advised a) after left → a ≡ advice_reply p words 1
 advice_told (advise_granted e) = refl
 
+-- a granted read tells the tag's answer, at a place of the load
+pub answer_told : {p : Protocol Bool} {place : ℕ} {before after : Phase} {words left : List ℕ} {b : Bool} → Call p (Read place) before words (answered b) after left → b ≡ answer_reply p.tables (state_at words place)
+answer_told (read_granted e) = refl
+
 -- an advised meeting, by what its three calls ask
 pub meeting_advised : (p : Protocol Bool) (tags : ℕ) (words : List ℕ) (first second : ℕ) → advise_verdict p.tables tags words ≡ Ok tt
     → advice_reply p words 1 ≡ Meet first second → open_verdict p.tables tags first second words ≡ Ok tt
@@ -89,7 +93,7 @@ module _ (p : Protocol Bool) (law : Lawful p) (symbols : List Symbol) (readings 
   call_keeps (read_granted e) k = k
   call_keeps (read_refused e) k = k
 
-  calls_keep : {calls : List (Request × Reply)} {before after : Phase} {words end : List ℕ} → Calls p before words calls after end → Kept p symbols before words → Kept p symbols after end
+  pub calls_keep : {calls : List (Request × Reply)} {before after : Phase} {words end : List ℕ} → Calls p before words calls after end → Kept p symbols before words → Kept p symbols after end
   calls_keep none k = k
   calls_keep (call one rest) k = calls_keep rest (call_keeps one k)
   calls_keep {words = words} (other_words e one rest) k = calls_keep rest (subst (λ phase. Kept p symbols phase words) (refused_stays one) k)
@@ -154,7 +158,7 @@ module _ (p : Protocol Bool) (law : Lawful p) (symbols : List Symbol) (readings 
       → Call p (Read place) phase words (answered b) after left → b ≡ p.truth (counts_of symbols)
   read_right k s (read_granted {tags} {place} {words} e) = right_from k.1 s place (subst (λ n. place < n) k.0 (read_facts p.tables tags words place e))
 
-  kept_computes : (phase : Phase) (words : List ℕ) → Kept p symbols phase words → StillComputes p symbols phase words
+  pub kept_computes : (phase : Phase) (words : List ℕ) → Kept p symbols phase words → StillComputes p symbols phase words
   kept_computes phase words k =
       let reached = kept_reaches p symbols phase k in
       let fit = reached_fits p law symbols readings big reached in
@@ -172,7 +176,7 @@ module _ (p : Protocol Bool) (law : Lawful p) (symbols : List Symbol) (readings 
       settles_from tags k = subst (λ n. (end : List ℕ) × SettlesWith p n words (p.weight * (n - 1)) end) (sym k.0) (follows k.1 (stable_at k.1).settles)
 
 -- a granted start is kept by every list of calls
-touched_kept : (p : Protocol Bool) (law : Lawful p) (symbols : List Symbol) (phase : Phase) (words : List ℕ) → TouchedByCalls p symbols phase words
+pub touched_kept : (p : Protocol Bool) (law : Lawful p) (symbols : List Symbol) (phase : Phase) (words : List ℕ) → TouchedByCalls p symbols phase words
     → (readings : Readings symbols) × (big : 0 < p.tables.size) × Kept p symbols phase words
 touched_kept p law symbols phase words it = from it.started it.called
   where

@@ -58,6 +58,11 @@ module _ (t : Tables Bool) (tags : ℕ) (words : List ℕ) where
       → (length words ≡ tags) × Apart tags first second × (state_at words first < t.size) × (state_at words second < t.size)
   open_facts first second e = grind (arith, nat_tests)
 
+  -- a finish is granted where there are as many words as tags and it knows both
+  pub finish_grants : (first second : ℕ) → length words ≡ tags → state_at words first < t.size → state_at words second < t.size
+      → finish_verdict t tags first second words ≡ Ok tt
+  finish_grants first second long one two = grind (arith, nat_tests)
+
   -- what it has opened is not refused when it is finished
   pub open_finishes : (first second : ℕ) → open_verdict t tags first second words ≡ Ok tt → finish_verdict t tags first second words ≡ Ok tt
   open_finishes first second e = grind (arith, nat_tests)
